@@ -1,0 +1,5 @@
+pub mod Lists
+pub mod Plane
+pub mod Plate
+pub mod Forms
+pub mod Plunges

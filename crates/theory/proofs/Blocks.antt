@@ -1,0 +1,44 @@
+-- The M blocks of document 01, in one statement: for every limit from 2 on, and so for 120, the definitions give what is asked.
+-- The answers at limit 2 are computed (Answers); that nothing is listed after an empty erosion carries them on.
+use mathlib.Core.Path.{_≡_, refl, _∙_}
+use mathlib.Core.List.{List, [], _∷_, map}
+use Prim.Native.Nat.{ℕ, _*_, _≤_, min}
+use native.Mathlib.Omega.{arith}
+use Rattle.geometry.specs.Lists.{All}
+use Rattle.geometry.specs.Plate.{tabulated}
+use Rattle.theory.specs.Erosion.{largestResidue, residueSum}
+use Rattle.theory.specs.Levels.{clearance, axis, reconstructed}
+use Rattle.theory.specs.Listing.{drawing}
+use Rattle.theory.specs.Blocks.{Block, answers, blocks}
+use Rattle.theory.proofs.Answers.{computed}
+use Rattle.theory.proofs.Plate.{tabulated-same}
+use Rattle.theory.proofs.Residues.{largestResidue-limit, residueSum-limit}
+use Rattle.theory.proofs.Listing.{listing-limit}
+
+-- a block that two rungs empty
+abbrev Small : Block → Type 0
+Small b = min (b .plate .width) (b .plate .height) ≤ 2 * 2
+
+module _ (limit : ℕ) (h : 2 ≤ limit) where
+  answers-limit : (b : Block) → Small b → answers limit b ≡ answers 2 b
+  answers-limit b s =
+      λ i. record {
+        listed = listing-limit (b .plate) limit (b .relief) 2 s h i;
+        cleared = tabulated (b .plate) (clearance (b .plate) (b .relief) 1);
+        medial = tabulated (b .plate) (axis (b .plate) (b .relief) 1);
+        restored = tabulated (b .plate) (reconstructed (b .plate) (tabulated (b .plate) (axis (b .plate) (b .relief) 1)));
+        largest = tabulated-same (b .plate) (largestResidue (b .plate) limit (b .relief)) (largestResidue (b .plate) 2 (b .relief)) (λ c o. largestResidue-limit (b .plate) (b .relief) 2 limit s h c) i;
+        summed = tabulated-same (b .plate) (residueSum (b .plate) limit (b .relief)) (residueSum (b .plate) 2 (b .relief)) (λ c o. residueSum-limit (b .plate) (b .relief) 2 limit s h c) i;
+        drawn = drawing (b .plate) (b .source);
+        tidied = listing-limit (b .plate) limit (drawing (b .plate) (b .source)) 2 s h i;
+      }
+
+  all-limit : (bs : List Block) → All Small bs → map (answers limit) bs ≡ map (answers 2) bs
+  all-limit [] s = refl
+  all-limit (b ∷ bs) s = λ i. answers-limit b (s .0) i ∷ all-limit bs (s .1) i
+
+small : All Small blocks
+small = omega arith
+
+pub blocks-hold : (limit : ℕ) → 2 ≤ limit → map (answers limit) blocks ≡ map (λ b. b .asked) blocks
+blocks-hold limit h = all-limit limit h blocks small ∙ computed

@@ -1,0 +1,14 @@
+pub mod Lists
+pub mod Distance
+pub mod Plate
+pub mod Balls
+pub mod Erosion
+pub mod Residues
+pub mod Plunges
+pub mod Listing
+pub mod Order
+pub mod Drawing
+pub mod Canonical
+pub mod Levels
+pub mod Answers
+pub mod Blocks

@@ -1,0 +1,4 @@
+pub mod Erosion
+pub mod Levels
+pub mod Listing
+pub mod Blocks

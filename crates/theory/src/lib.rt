@@ -1,0 +1,1 @@
+// No code: the definitions of reliefs, levels and lists (specs/), and the laws about them (proofs/).

@@ -1,0 +1,146 @@
+// A cell's window, three rows of three numbers of a map by value, and the leaves that take its lowest and highest for either kind.
+use geometry::Head;
+use geometry::Kind;
+ghost use mathlib.Core.Path.{_≡_};
+ghost use Prim.Native.Nat.{_+_, _<_, _≤_, min, max};
+ghost use lib.ListN.{length};
+ghost use Rattle.geometry.specs.Plane.{cell};
+ghost use Rattle.geometry.specs.Plate.{at};
+ghost use Rattle.window.specs.Windows.{before, windowOf, windowIn, windowMin, windowMax, inWindow};
+
+pub fn lower(a: u8, b: u8) -> u8
+    ensures { λ r. ⌜ r ≡ min a b ⌝ }
+{
+    if a < b { a } else { b }
+}
+
+pub fn higher(a: u8, b: u8) -> u8
+    ensures { λ r. ⌜ r ≡ max a b ⌝ }
+{
+    if a < b { b } else { a }
+}
+
+// The lowest of the middle and the four that share a side with it.
+fn cross_min(win: [[u8; 3]; 3]) -> u8
+    ensures { λ r. ⌜ r ≡ min (min (inWindow win 0 1) (inWindow win 2 1)) (min (min (inWindow win 1 0) (inWindow win 1 2)) (inWindow win 1 1)) ⌝ }
+{
+    lower(
+        lower(win[0][1], win[2][1]),
+        lower(lower(win[1][0], win[1][2]), win[1][1]),
+    )
+}
+
+// The lowest of the four corners.
+fn corners_min(win: [[u8; 3]; 3]) -> u8
+    ensures { λ r. ⌜ r ≡ min (min (inWindow win 0 0) (inWindow win 0 2)) (min (inWindow win 2 0) (inWindow win 2 2)) ⌝ }
+{
+    lower(lower(win[0][0], win[0][2]), lower(win[2][0], win[2][2]))
+}
+
+fn cross_max(win: [[u8; 3]; 3]) -> u8
+    ensures { λ r. ⌜ r ≡ max (max (inWindow win 0 1) (inWindow win 2 1)) (max (max (inWindow win 1 0) (inWindow win 1 2)) (inWindow win 1 1)) ⌝ }
+{
+    higher(
+        higher(win[0][1], win[2][1]),
+        higher(higher(win[1][0], win[1][2]), win[1][1]),
+    )
+}
+
+fn corners_max(win: [[u8; 3]; 3]) -> u8
+    ensures { λ r. ⌜ r ≡ max (max (inWindow win 0 0) (inWindow win 0 2)) (max (inWindow win 2 0) (inWindow win 2 2)) ⌝ }
+{
+    higher(higher(win[0][0], win[0][2]), higher(win[2][0], win[2][2]))
+}
+
+// The lowest of a window among the middle cell and its neighbours.
+pub fn window_min(kind: Kind, win: [[u8; 3]; 3]) -> u8
+    ensures { λ r. ⌜ r ≡ windowMin kind win ⌝ }
+{
+    match kind {
+        Kind::Diamond => cross_min(win),
+        Kind::Square => lower(cross_min(win), corners_min(win)),
+    }
+}
+
+// The highest of a window among the middle cell and its neighbours.
+pub fn window_max(kind: Kind, win: [[u8; 3]; 3]) -> u8
+    ensures { λ r. ⌜ r ≡ windowMax kind win ⌝ }
+{
+    match kind {
+        Kind::Diamond => cross_max(win),
+        Kind::Square => higher(cross_max(win), corners_max(win)),
+    }
+}
+
+// A map's number at column i - 1 and row j - 1, 0 off the plate and past the end of the buffer.
+fn at_before(head: Head, map: &[u8], i: usize, j: usize) -> u8
+    requires { ⌜ (i ≤ 65537) × (j ≤ 65537) ⌝ }
+    ensures { λ r. ⌜ r ≡ at head (now (map .entry)) (before i j) ⌝ }
+{
+    let width = head.width as usize;
+    let height = head.height as usize;
+    if i == 0 {
+        return 0;
+    }
+    if j == 0 {
+        return 0;
+    }
+    let column = i - 1;
+    let row = j - 1;
+    if width <= column {
+        return 0;
+    }
+    if height <= row {
+        return 0;
+    }
+    let number = row * width + column;
+    if map.len() <= number {
+        return 0;
+    }
+    map[number]
+}
+
+// The window of a cell of a map.
+pub fn window_at(head: Head, map: &[u8], column: u16, row: u16) -> [[u8; 3]; 3]
+    ensures { λ r. ⌜ r ≡ windowOf head (now (map .entry)) (cell column row) ⌝ }
+{
+    let x = column as usize;
+    let y = row as usize;
+    [
+        [
+            at_before(head, map, x, y),
+            at_before(head, map, x + 1, y),
+            at_before(head, map, x + 2, y),
+        ],
+        [
+            at_before(head, map, x, y + 1),
+            at_before(head, map, x + 1, y + 1),
+            at_before(head, map, x + 2, y + 1),
+        ],
+        [
+            at_before(head, map, x, y + 2),
+            at_before(head, map, x + 1, y + 2),
+            at_before(head, map, x + 2, y + 2),
+        ],
+    ]
+}
+
+// The nine bytes about a number of a flat map: the window of a cell that does not touch the edge.
+pub fn window_in(map: &[u8], width: usize, number: usize) -> [[u8; 3]; 3]
+    requires { ⌜ (width + 1 ≤ number) × (number + width + 1 < length (now map)) ⌝ }
+    ensures { λ r. ⌜ r ≡ windowIn (now (map .entry)) width number ⌝ }
+{
+    [
+        [
+            map[number - width - 1],
+            map[number - width],
+            map[number - width + 1],
+        ],
+        [map[number - 1], map[number], map[number + 1]],
+        [
+            map[number + width - 1],
+            map[number + width],
+            map[number + width + 1],
+        ],
+    ]
+}
