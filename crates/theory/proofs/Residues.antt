@@ -1,6 +1,6 @@
 -- Residues are never below 0; a cell's scores are at most its depth; past an empty erosion no residue is left.
 use mathlib.Core.Path.{_≡_, refl, sym, ap, _∙_}
-use mathlib.Core.List.{List, [], _∷_, List·Memᴰ, List·Memᴰ·head}
+use mathlib.Core.List.{List, [], _∷_, _++_, List·Memᴰ, List·Memᴰ·head}
 use Prim.Native.Nat.{ℕ, zero, suc, _+_, _*_, _-_, _≤_, _<_, min, max}
 use native.Mathlib.Omega.{arith}
 use lib.ListN.{length, take}
@@ -9,6 +9,7 @@ use Rattle.geometry.specs.Lists.{gather, highest, sum}
 use Rattle.geometry.specs.Plane.{Cell}
 use Rattle.geometry.specs.Plate.{at, area, tabulated}
 use Rattle.theory.specs.Erosion.{erosion, highestNear, residue, residues, largestResidue, residueSum, volume}
+use Rattle.theory.proofs.Lists.{gather-more}
 use Rattle.theory.proofs.Plate.{tabulated-at}
 use Rattle.theory.proofs.Erosion.{le-highestNear, highestNear-met, erosion-near, erosion-ended, erosion-top, erosion-zero}
 
@@ -63,21 +64,53 @@ module _ (p : Head) (m : List ℕ) where
         let t = scores-stop n r (suc k) (λ j h. z j (omega arith)) in
         rw e (omega (arith, t .0), omega (arith, t .1))
 
-  module _ (j limit : ℕ) (sides : min (p .width) (p .height) ≤ 2 * j) (more : j ≤ limit) (c : Cell) where
+  -- the scores are the same for every limit from an empty erosion on
+  module _ (j limit : ℕ) (more : j ≤ limit) (empty : (c : Cell) → erosion p m j c ≡ 0) (c : Cell) where
     none : (k : ℕ) → 1 + j ≤ k → residue p m k c ≡ 0
     none zero h = absurd (omega arith)
-    none (suc k) h = residue-ended j k (omega arith) (erosion-top p m j sides) c
+    none (suc k) h = residue-ended j k (omega arith) empty c
 
     split : limit ≡ j + (limit - j)
     split = omega arith
 
-    pub residueSum-limit : residueSum p limit m c ≡ residueSum p j m c
+    pub residueSum-stops : residueSum p limit m c ≡ residueSum p j m c
     unfolding residueSum
-    residueSum-limit = ap (λ (n : ℕ). sum (residues p n m c)) split ∙ scores-stop c j (limit - j) 1 none .0
+    residueSum-stops = ap (λ (n : ℕ). sum (residues p n m c)) split ∙ scores-stop c j (limit - j) 1 none .0
+
+    pub largestResidue-stops : largestResidue p limit m c ≡ largestResidue p j m c
+    unfolding largestResidue
+    largestResidue-stops = ap (λ (n : ℕ). highest 0 (residues p n m c)) split ∙ scores-stop c j (limit - j) 1 none .1
+
+  -- so for every limit from half the smaller side on
+  module _ (j limit : ℕ) (sides : min (p .width) (p .height) ≤ 2 * j) (more : j ≤ limit) (c : Cell) where
+    pub residueSum-limit : residueSum p limit m c ≡ residueSum p j m c
+    residueSum-limit = residueSum-stops j limit more (erosion-top p m j sides) c
 
     pub largestResidue-limit : largestResidue p limit m c ≡ largestResidue p j m c
+    largestResidue-limit = largestResidue-stops j limit more (erosion-top p m j sides) c
+
+  -- one residue more
+  module _ (c : Cell) where
+    one-more : (k : ℕ) → residues p (k + 1) m c ≡ residues p k m c ++ (residue p m (suc k) c ∷ [])
+    one-more k =
+        let e : 1 + k ≡ suc k = omega arith in
+        gather-more k 1 (λ j. residue p m j c ∷ []) ∙ ap (λ (j : ℕ). residues p k m c ++ (residue p m j c ∷ [])) e
+
+    sum-last : (l : List ℕ) (r : ℕ) → sum (l ++ (r ∷ [])) ≡ sum l + r
+    sum-last [] r = omega arith
+    sum-last (n ∷ l) r = omega (arith, sum-last l r)
+
+    highest-last : (l : List ℕ) (r : ℕ) → highest 0 (l ++ (r ∷ [])) ≡ max (highest 0 l) r
+    highest-last [] r = omega arith
+    highest-last (n ∷ l) r = omega (arith, highest-last l r)
+
+    pub residueSum-more : (k : ℕ) → residueSum p (k + 1) m c ≡ residueSum p k m c + residue p m (suc k) c
+    unfolding residueSum
+    residueSum-more k = ap sum (one-more k) ∙ sum-last (residues p k m c) (residue p m (suc k) c)
+
+    pub largestResidue-more : (k : ℕ) → largestResidue p (k + 1) m c ≡ max (largestResidue p k m c) (residue p m (suc k) c)
     unfolding largestResidue
-    largestResidue-limit = ap (λ (n : ℕ). highest 0 (residues p n m c)) split ∙ scores-stop c j (limit - j) 1 none .1
+    largestResidue-more k = ap (highest 0) (one-more k) ∙ highest-last (residues p k m c) (residue p m (suc k) c)
 
   -- the volume is the sum of the plate's own bytes
   pub volume-take : area p ≤ length m → volume p m ≡ sum (take (area p) m)

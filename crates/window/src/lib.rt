@@ -17,7 +17,7 @@ pub fn lower(a: u8, b: u8) -> u8
 pub fn higher(a: u8, b: u8) -> u8
     ensures { λ r. ⌜ r ≡ max a b ⌝ }
 {
-    if a < b { b } else { a }
+    if b < a { a } else { b }
 }
 
 // The lowest of the middle and the four that share a side with it.

@@ -32,10 +32,14 @@ cast-result-3 : tie.Need-cast-result-3
 cast-result-3 c = search needs
 
 returns : tie.Need-returns
-returns c = rw (le-leb _ _ (c .before .before .before .before .before .before .before .if1 .taken), le-leb _ _ (c .before .before .before .before .before .if2 .taken), lt-ltb _ _ (c .before .before .if3 .taken))
+returns c =
+    let d = c .before .before .before .before .before in
+    rw (le-leb _ _ (d .before .before .if1 .taken), le-leb _ _ (d .if2 .taken), lt-ltb _ _ (c .before .before .if3 .taken))
 
 returns-2 : tie.Need-returns-2
-returns-2 c = simp (le-leb _ _ (c .before .before .before .before .before .if1 .taken), le-leb _ _ (c .before .before .before .if2 .taken), le-ltb _ _ (c .if3 .left))
+returns-2 c =
+    let d = c .before .before .before in
+    simp (le-leb _ _ (d .before .before .if1 .taken), le-leb _ _ (d .if2 .taken), le-ltb _ _ (c .if3 .left))
 
 returns-3 : tie.Need-returns-3
 returns-3 c = simp (le-leb _ _ (c .before .before .if1 .taken), lt-leb _ _ (c .if2 .left))

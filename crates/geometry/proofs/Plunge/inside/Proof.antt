@@ -13,13 +13,21 @@ cast-if1 : tie.Need-cast-if1
 cast-if1 c = search needs
 
 add-if1 : tie.Need-add-if1
-add-if1 c = let a = c .before .before .args in omega (arith, c .before .distance .ensures, dist-at-most (a .kind) (a .self .column) (a .self .row) (a .other .column) (a .other .row))
+add-if1 c =
+    let a = c .before .before .args in
+    omega (
+      arith,
+      c .before .distance .ensures,
+      dist-at-most (a .kind) (a .self .column) (a .self .row) (a .other .column) (a .other .row),
+    )
 
 cast-if1-2 : tie.Need-cast-if1-2
 cast-if1-2 c = search needs
 
 returns : tie.Need-returns
-returns c = simp (← c .before .before .before .before .before .distance .ensures, le-leb _ _ (c .before .before .if1 .taken))
+returns c =
+    let d = c .before .before in
+    simp (← d .before .before .before .distance .ensures, le-leb _ _ (d .if1 .taken))
 
 returns-2 : tie.Need-returns-2
 returns-2 c = simp (← c .before .before .before .distance .ensures, lt-leb _ _ (c .if1 .left))

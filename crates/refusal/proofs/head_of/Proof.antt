@@ -1,0 +1,13 @@
+-- `head_of` is `headOf`, by the kind's byte.
+use borrow.Author.Tests.{ne-eqb}
+use Rattle.refusal.proofs.head_of.Statement.{statement}
+use Rattle.refusal.proofs.head_of.Tie as tie
+
+returns : tie.Need-returns
+returns c = simp (c .match .keys1)
+
+returns-2 : tie.Need-returns-2
+returns-2 c = simp (ne-eqb _ _ (c .match .rest .1))
+
+pub head-of-spec : {M : Type 1} → statement M
+head-of-spec = tie.close (tie.spec returns returns-2)

@@ -1,0 +1,109 @@
+// Refusals, and the checks of arguments that every call makes, in document 01's order.
+use geometry::Head;
+use geometry::Kind;
+use geometry::MaybeKind;
+ghost use mathlib.Core.Path.{_≡_};
+ghost use mathlib.Core.List.{[], _∷_};
+ghost use Prim.Native.Nat.{min};
+ghost use Rattle.refusal.specs.Refusals.{isSide, badSides, isRung, headOf, firstMet, sideTrials, mapTrials};
+
+// A number of document 01's table, and a place.
+pub struct Refusal {
+    pub number: u8,
+    pub place: usize,
+}
+
+// What a call says of its arguments and buffers.
+pub enum Verdict {
+    Accepted,
+    Refused(Refusal),
+}
+
+// A plate's side is 1 to this.
+pub const LARGEST_SIDE: u16 = 240;
+
+// A rung or residue number is 1 to this.
+pub const LARGEST_RUNG: u16 = 120;
+
+fn is_side(n: u16) -> bool
+    ensures { λ r. ⌜ r ≡ isSide n ⌝ }
+{
+    if 1 <= n { n <= LARGEST_SIDE } else { false }
+}
+
+// Whether a number is one of a rung or a residue.
+pub fn is_rung(n: u16) -> bool
+    ensures { λ r. ⌜ r ≡ isRung n ⌝ }
+{
+    if 1 <= n { n <= LARGEST_RUNG } else { false }
+}
+
+fn refuse(number: u8) -> Verdict
+    ensures { λ r. ⌜ r ≡ Verdict.Refused (record { number = number; place = 0 }) ⌝ }
+{
+    Verdict::Refused(Refusal { number, place: 0 })
+}
+
+fn bad_sides(width: u16, height: u16) -> bool
+    ensures { λ r. ⌜ r ≡ badSides width height ⌝ }
+{
+    if is_side(width) {
+        if is_side(height) {
+            return false;
+        }
+        return true;
+    }
+    true
+}
+
+// Refusals 2, 3 and 4 in their order: the sides, what 3 is about, the shortest buffer.
+pub fn check_sides(width: u16, height: u16, wrong: bool, shortest: usize) -> Verdict
+    ensures { λ r. ⌜ r ≡ firstMet (sideTrials width height wrong (shortest ∷ [])) ⌝ }
+{
+    if bad_sides(width, height) {
+        return refuse(2);
+    }
+    if wrong {
+        return refuse(3);
+    }
+    if shortest < (height as usize) * (width as usize) {
+        return refuse(4);
+    }
+    Verdict::Accepted
+}
+
+// Refusals 1, 2, 3 and 4 in their order.
+pub fn check_map(kind: u8, width: u16, height: u16, wrong: bool, shortest: usize) -> Verdict
+    ensures { λ r. ⌜ r ≡ firstMet (mapTrials kind width height wrong (shortest ∷ [])) ⌝ }
+{
+    match kind {
+        4 => check_sides(width, height, wrong, shortest),
+        8 => check_sides(width, height, wrong, shortest),
+        _ => refuse(1),
+    }
+}
+
+// The plate of a kind's byte and two sides.
+pub fn head_of(kind: u8, width: u16, height: u16) -> Head
+    ensures { λ r. ⌜ r ≡ headOf kind width height ⌝ }
+{
+    match kind {
+        4 => Head {
+            kind: Kind::Diamond,
+            width,
+            height,
+        },
+        _ => Head {
+            kind: Kind::Square,
+            width,
+            height,
+        },
+    }
+}
+
+// The smaller of two lengths.
+pub fn shorter(a: usize, b: usize) -> usize
+    ensures { λ r. ⌜ r ≡ min a b ⌝ }
+{
+    if a < b { a } else { b }
+}
