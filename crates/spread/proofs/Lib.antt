@@ -1,0 +1,3 @@
+pub mod Join
+pub mod Passes
+pub mod Finish
