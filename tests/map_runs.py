@@ -1,5 +1,7 @@
 #!/usr/bin/env python3
-"""Makes crates/map_runs/stdin and the expected crates/map_runs/stdout, from document 01 alone.
+"""Makes crates/map_runs/stdin and the expected crates/map_runs/stdout, by document 01 and by other methods than the library's.
+
+Its author had read the library's source, so it is another computation and not another team's implementation.
 
     python3 tests/map_runs.py           writes both files
     python3 tests/map_runs.py --check   only compares: ends with 1 if a file differs
