@@ -1,12 +1,14 @@
 #!/usr/bin/env python3
-"""Makes crates/map_runs/stdin and the expected crates/map_runs/stdout, by document 01 and by other methods than the library's.
+"""Makes the stdin and the expected stdout of the programs map_runs and plate_runs, by document 01 and by other methods
+than the library's.
 
 Its author had read the library's source, so it is another computation and not another team's implementation.
+map_runs has the blocks, small plates and refusals, which 'rt try' runs too; plate_runs has the long and the large plates:
+'rt try' ends its interpreter after 10 million steps, which these would pass.
 
-    python3 tests/map_runs.py           writes both files
+    python3 tests/map_runs.py           writes all four files
     python3 tests/map_runs.py --check   only compares: ends with 1 if a file differs
-    python3 tests/map_runs.py --small   writes both files with small plates only: 'rt try' ends its interpreter after
-                                        10 million steps, which plates of 240 cells and more would pass
+    python3 tests/map_runs.py --small   with either: map_runs alone
 
 How each number is computed (cells off the plate have depth 0 throughout):
   rungs      plates of at most 100 cells: the lowest depth over every cell of the ball, off-plate cells included.
@@ -25,7 +27,7 @@ import os
 import sys
 
 HERE = os.path.dirname(os.path.abspath(__file__))
-CRATE = os.path.join(HERE, "..", "crates", "map_runs")
+CRATES = os.path.join(HERE, "..", "crates")
 
 CELL, CLEARANCE, AXIS, BACK, RUNG, RESIDUE, LARGEST, SUM, VOLUME = range(1, 10)
 LITERAL, CONSTANT, NOISE, COLUMNS, DOME = range(5)
@@ -432,27 +434,32 @@ def refusals():
         add(VOLUME, kind, w, h, relief=relief)
 
 
-def main():
-    blocks()
-    small_plates()
-    refusals()
-    if "--small" not in sys.argv[1:]:
-        long_plates()
-        large_plates()
+def held(crate, parts, check):
+    """Writes a program's stdin and stdout, or compares them; whether one differs."""
+    RECORDS.clear()
+    for part in parts:
+        part()
     stdin = b"".join(map(packed, RECORDS))
     stdout = "".join(map(printed, RECORDS)).encode()
     assert len(stdin) < 65536
-    differing = 0
+    differing = False
     for name, content in (("stdin", stdin), ("stdout", stdout)):
-        path = os.path.join(CRATE, name)
-        if "--check" in sys.argv[1:]:
-            if open(path, "rb").read() != content:
-                print(f"map_runs: {name} differs")
-                differing = 1
-        else:
+        path = os.path.join(CRATES, crate, name)
+        if not check:
             open(path, "wb").write(content)
-    print(f"map_runs: {len(RECORDS)} records, {len(stdin)} bytes in, {len(stdout)} bytes out")
-    sys.exit(differing)
+        elif open(path, "rb").read() != content:
+            print(f"{crate}: {name} differs")
+            differing = True
+    print(f"{crate}: {len(RECORDS)} records, {len(stdin)} bytes in, {len(stdout)} bytes out")
+    return differing
+
+
+def main():
+    check = "--check" in sys.argv[1:]
+    differing = held("map_runs", (blocks, small_plates, refusals), check)
+    if "--small" not in sys.argv[1:]:
+        differing |= held("plate_runs", (long_plates, large_plates), check)
+    sys.exit(int(differing))
 
 
 if __name__ == "__main__":

@@ -5,7 +5,7 @@ use geometry::Kind;
 use refusal::Refusal;
 use refusal::Verdict;
 ghost use mathlib.Core.Path.{_≡_};
-ghost use Prim.Native.Nat.{_+_, _≤_, _<_, min, max};
+ghost use Prim.Native.Nat.{_+_, _≤_, _<_, max};
 ghost use lib.ListN.{length};
 ghost use Rattle.geometry.specs.Plane.{cell};
 ghost use Rattle.geometry.specs.Plate.{area};
@@ -16,12 +16,6 @@ ghost use Rattle.clearance.specs.Cell.{clearanceAnswer, wrongCell, edgeD
 pub enum CellAnswer {
     Cleared(Clearance),
     NotCleared(Refusal),
-}
-
-fn smaller(a: usize, b: usize) -> usize
-    ensures { λ r. ⌜ r ≡ min a b ⌝ }
-{
-    if a < b { a } else { b }
 }
 
 fn larger(a: usize, b: usize) -> usize
@@ -35,9 +29,9 @@ fn edge_distance(width: usize, height: usize, column: usize, row: usize) -> usiz
     requires { ⌜ (column < width) × (row < height) ⌝ }
     ensures { λ r. ⌜ r ≡ edgeDistance width height column row ⌝ }
 {
-    smaller(
-        smaller(column + 1, width - column),
-        smaller(row + 1, height - row),
+    refusal::shorter(
+        refusal::shorter(column + 1, width - column),
+        refusal::shorter(row + 1, height - row),
     )
 }
 

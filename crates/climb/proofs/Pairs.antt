@@ -19,7 +19,8 @@ use Rattle.theory.proofs.Distance.{gap-self}
 use Rattle.theory.proofs.Plate.{on-or-off, at-cell}
 use Rattle.theory.proofs.Erosion.{erosion-is, erosion-zero, erosion-step, erosion-off}
 use Rattle.buffers.specs.Fill.{Filled, Mapped}
-use Rattle.erosions.specs.Steps.{Margin, Stepped}
+use Rattle.erosions.specs.Steps.{Stepped}
+use Rattle.buffers.specs.Margin.{Margin}
 use Rattle.erosions.proofs.Steps.{low-here}
 use Rattle.climb.specs.Pairs.{Rung, Kept, Turn, Pair, PairStep, Climbed}
 

@@ -15,9 +15,10 @@ use Rattle.theory.proofs.Plate.{at-cell}
 use Rattle.theory.proofs.Erosion.{erosion-ended}
 use Rattle.theory.proofs.Residues.{residue-ended, residueSum-le, residueSum-more, largestResidue-more, residueSum-stops, largestResidue-stops}
 use Rattle.buffers.specs.Fill.{Filled, Mapped}
-use Rattle.erosions.specs.declared.Score.{Score}
-use Rattle.erosions.specs.declared.Score.the-variants.{Largest, Sum}
-use Rattle.erosions.specs.Steps.{joined, Margin, Scored}
+use Rattle.residues.specs.declared.Score.{Score}
+use Rattle.residues.specs.declared.Score.the-variants.{Largest, Sum}
+use Rattle.buffers.specs.Margin.{Margin}
+use Rattle.residues.specs.Residues.{joined, Scored}
 use Rattle.climb.specs.Pairs.{scoreOf, Rung, Turn, Pair, PairScore, Climbed, ScoreUpTo}
 use Rattle.climb.proofs.Pairs.{rung-margin, mod-cases, turn-margins}
 

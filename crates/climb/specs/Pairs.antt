@@ -8,9 +8,11 @@ use Rattle.geometry.specs.declared.Head.{Head}
 use Rattle.geometry.specs.Plane.{Cell, cell}
 use Rattle.geometry.specs.Plate.{area, at}
 use Rattle.theory.specs.Erosion.{erosion, largestResidue, residueSum}
-use Rattle.erosions.specs.declared.Score.{Score}
-use Rattle.erosions.specs.declared.Score.the-variants.{Largest, Sum}
-use Rattle.erosions.specs.Steps.{joined, Margin, Stepped, Scored}
+use Rattle.residues.specs.declared.Score.{Score}
+use Rattle.residues.specs.declared.Score.the-variants.{Largest, Sum}
+use Rattle.erosions.specs.Steps.{Stepped}
+use Rattle.buffers.specs.Margin.{Margin}
+use Rattle.residues.specs.Residues.{joined, Scored}
 use Rattle.buffers.specs.Fill.{Mapped}
 
 -- the buffer holds erosion k of a relief

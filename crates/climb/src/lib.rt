@@ -1,6 +1,6 @@
 // The climb from erosion to erosion in two buffers, turn by turn, and the maps that it fills: an erosion, a residue, a score.
-use erosions::Score;
 use geometry::Head;
+use residues::Score;
 ghost use mathlib.Core.Path.{_≡_};
 ghost use Prim.Native.Nat.{_-_, _%_, _≤_, _<_};
 ghost use lib.ListN.{length};
@@ -8,7 +8,7 @@ ghost use Rattle.geometry.specs.Plate.{area};
 ghost use Rattle.theory.specs.Erosion.{erosion, residue};
 ghost use Rattle.refusal.specs.Refusals.{largestRung};
 ghost use Rattle.buffers.specs.Fill.{Mapped};
-ghost use Rattle.erosions.specs.Steps.{Margin};
+ghost use Rattle.buffers.specs.Margin.{Margin};
 ghost use Rattle.climb.specs.Pairs.{Kept, PairStep, PairScore, Climbed, ScoreUpTo};
 
 // The next erosion of the pair, into the buffer that has the one before.
@@ -46,10 +46,10 @@ pub fn residue_pair(head: Head, score: Score, k: usize, a: &[u8], b: &[u8], out:
     ensures { λ _. ⌜ PairScore head score k (now (a .entry)) (now (b .entry)) (now (out .entry)) (now (out .exit)) ⌝ }
 {
     if k % 2 == 0 {
-        erosions::residue_step(head, score, k, b, a, out);
+        residues::residue_step(head, score, k, b, a, out);
         return;
     }
-    erosions::residue_step(head, score, k, a, b, out);
+    residues::residue_step(head, score, k, a, b, out);
 }
 
 // Erosion `number` of a relief, as a map.

@@ -1,2 +1,1 @@
 pub mod Transform
-pub mod Axis

@@ -74,8 +74,13 @@ pub record Answered (verdict : Verdict) (new old now : List ℕ) (r : Verdict) :
   pub answer : r ≡ verdict
   pub bytes : now ≡ written verdict new old
 
--- a work buffer: its length and what lies past the plate's bytes stay, and on a refusal all of it
+-- work bytes "are free after acceptance, and after refusals 5 and 12; other refusals leave them untouched"
+abbrev pub free : Verdict → Bool
+free Accepted = true
+free (Refused r) = cond (eqb (r .number) 5) true (eqb (r .number) 12)
+
+-- a work buffer: its length and what lies past the plate's bytes stay, and all of it where its bytes are not free
 pub record Worked (verdict : Verdict) (area : ℕ) (old now : List ℕ) : Type 0 where
   pub same : length now ≡ length old
   pub surplus : drop area now ≡ drop area old
-  pub refused : (verdict ≡ Accepted → ⊥) → now ≡ old
+  pub kept : free verdict ≡ false → now ≡ old

@@ -1,6 +1,6 @@
 -- What a call leaves, refused and accepted; the shortest buffer stands for all four; the volume's sum.
 use mathlib.Core.Path.{_≡_, refl, sym, ap, _∙_, subst}
-use mathlib.Core.Bool.{Bool, false}
+use mathlib.Core.Bool.{Bool, true, false}
 use mathlib.Core.List.{List, [], _∷_, _++_}
 use Prim.Native.Nat.{ℕ, zero, suc, _+_, _*_, _≤_, _<_, min}
 use native.Mathlib.Omega.{arith}
@@ -19,7 +19,7 @@ use Rattle.buffers.proofs.Fill.{mapped-bytes, surplus-drop}
 use Rattle.refusal.specs.declared.Refusal.{Refusal}
 use Rattle.refusal.specs.declared.Verdict.{Verdict}
 use Rattle.refusal.specs.declared.Verdict.the-variants.{Accepted, Refused}
-use Rattle.refusal.specs.Refusals.{firstMet, mapTrials, headOf, written}
+use Rattle.refusal.specs.Refusals.{firstMet, mapTrials, headOf, written, free}
 use Rattle.refusal.proofs.Refusals.{same-verdict, shortest-two, map-sound, Sound}
 use Rattle.relief.specs.Calls.{Left}
 use Rattle.climb.specs.Pairs.{Kept}
@@ -46,16 +46,19 @@ module _ (k w h : ℕ) (wrong : Bool) (room m o a b : ℕ) (v : Verdict) (r : ro
 
 -- ---- what is left
 
-refused-not : (q : Refusal) → Refused q ≡ Accepted → ⊥
-refused-not q e = let z : _≡_ {A = ℕ} 0 1 = cc in omega arith
+free-not : (v : Verdict) → v ≡ Accepted → free v ≡ false → ⊥
+free-not v e g = true-not-false (sym (ap free e) ∙ g)
+  where
+    true-not-false : true ≡ false → ⊥
+    true-not-false d = let z : _≡_ {A = ℕ} 0 1 = cc in omega arith
 
 -- on a refusal everything
 pub left-refused : (v : Verdict) (q : Refusal) (n : ℕ) (new out a b : List ℕ) → v ≡ Refused q → Left v n new out out a a b b (Refused q)
 left-refused v q n new out a b e =
     record {
       answered = record { answer = sym e; bytes = sym (ap (λ (u : Verdict). written u new out) e) };
-      first = record { same = refl; surplus = refl; refused = λ h. refl };
-      second = record { same = refl; surplus = refl; refused = λ h. refl };
+      first = record { same = refl; surplus = refl; kept = λ h. refl };
+      second = record { same = refl; surplus = refl; kept = λ h. refl };
     }
 
 -- on acceptance the map, then what stood there before
@@ -63,8 +66,8 @@ pub left-accepted : (v : Verdict) (p : Head) (f : Cell → ℕ) (out out′ a a�
 left-accepted v p f out out′ a a′ b b′ e h m x y =
     record {
       answered = record { answer = sym e; bytes = mapped-bytes p f out out′ h m ∙ sym (ap (λ (u : Verdict). written u (tabulated p f) out) e) };
-      first = record { same = x .same; surplus = surplus-drop p f a a′ (x .same) (x .surplus); refused = λ g. absurd (g e) };
-      second = record { same = y .same; surplus = surplus-drop p f b b′ (y .same) (y .surplus); refused = λ g. absurd (g e) };
+      first = record { same = x .same; surplus = surplus-drop p f a a′ (x .same) (x .surplus); kept = λ g. absurd (free-not v e g) };
+      second = record { same = y .same; surplus = surplus-drop p f b b′ (y .same) (y .surplus); kept = λ g. absurd (free-not v e g) };
     }
 
 -- ---- the volume

@@ -6,7 +6,7 @@ use Prim.Native.Nat.{ℕ, _*_}
 use lib.ListN.{length}
 use Rattle.geometry.specs.Plate.{tabulated}
 use Rattle.theory.specs.Erosion.{erosion, residue, volume}
-use Rattle.erosions.specs.declared.Score.{Score}
+use Rattle.residues.specs.declared.Score.{Score}
 use Rattle.refusal.specs.declared.Verdict.{Verdict}
 use Rattle.refusal.specs.declared.Verdict.the-variants.{Accepted, Refused}
 use Rattle.refusal.specs.Refusals.{firstMet, mapTrials, sideTrials, headOf, isRung, largestRung, Answered, Worked}

@@ -1,7 +1,7 @@
 // Maps of all levels at once, as calls: rungs (erosions), residues, scores, and the volume.
-use erosions::Score;
 use refusal::Refusal;
 use refusal::Verdict;
+use residues::Score;
 ghost use mathlib.Core.Path.{_≡_};
 ghost use Prim.Native.Nat.{_≤_, min};
 ghost use lib.ListN.{length, take};

@@ -3,6 +3,7 @@ use mathlib.Core.Path.{_≡_, refl, sym, ap, _∙_, subst}
 use mathlib.Core.Logic.{_⊎_, inl, inr}
 use mathlib.Core.List.{List}
 use Prim.Native.Nat.{ℕ, _+_, _*_, _-_, _≤_, _<_, max}
+use native.Mathlib.Nat.{add-assoc, sub-le, lt-of-le-of-lt, lt-of-not-le}
 use native.Mathlib.Omega.{arith}
 use native.Mathlib.Decide.{decLe}
 use lib.IntN.{pos}
@@ -80,15 +81,31 @@ choice v s a b c e = go (decLe v 0) (decLe v a) (decLe (v + s) b)
 no-lower : (v s a b c : ℕ) → v ≡ max a (max (b - s) (c - s)) → (a ≤ v) × (b ≤ v + s) × (c ≤ v + s)
 no-lower v s a b c e = (omega arith, omega arith, omega arith)
 
--- gaps as differences, and the way over a third column
-gap-ahead : (x a : ℕ) → x ≤ a → gap (pos x) (pos a) + x ≡ a
-gap-ahead x a h = omega arith
+-- gaps a step nearer, and the way over a third column
+gap-ahead : (x s a : ℕ) → x + s ≤ a → gap (pos x) (pos a) ≡ gap (pos (x + s)) (pos a) + s
+gap-ahead x s a h = omega arith
 
-gap-back : (x a : ℕ) → a ≤ x → gap (pos x) (pos a) + a ≡ x
-gap-back x a h = omega arith
+gap-back : (x s a : ℕ) → a + s ≤ x → gap (pos x) (pos a) ≡ gap (pos (x - s)) (pos a) + s
+gap-back x s a h = omega arith
+
+gap-under : (x s a : ℕ) → a < x + s → x < a + s → gap (pos x) (pos a) < s
+gap-under x s a h l = omega arith
 
 gap-over : (x s a : ℕ) → (gap (pos x) (pos a) ≤ s + gap (pos (x + s)) (pos a)) × (gap (pos (x + s)) (pos a) ≤ s + gap (pos x) (pos a))
 gap-over x s a = (omega arith, omega arith)
+
+-- a bound at a column, from the bound a step nearer; from the same column's
+step-bound : {q b b′ g : ℕ} (v h s : ℕ) → g ≡ h + s → q ≤ b + h → b′ ≤ v + s → b′ ≡ b → q ≤ v + g
+step-bound v h s e f k o = omega arith
+
+step-near : {g : ℕ} (h s : ℕ) → g ≡ h + s → g < 2 * s → h < s
+step-near h s e l = omega arith
+
+stay-bound : {q b : ℕ} (v g : ℕ) → q ≤ b + g → b ≤ v → q ≤ v + g
+stay-bound v g f k = omega arith
+
+past-margin : (x s a : ℕ) → a + s ≤ x → margin + x - s ≡ margin + (x - s)
+past-margin x s a h = omega arith
 
 -- a step in both directions doubles the reach
 module _ (q : ℕ → ℕ) (w s : ℕ) (src dst dst′ : List ℕ) (l : Line q w s src) (m : Margins w dst) (h : Filled (stepped src s) margin (margin + w) dst dst′) (small : s ≤ margin) where
@@ -106,14 +123,12 @@ module _ (q : ℕ → ℕ) (w s : ℕ) (src dst dst′ : List ℕ) (l : Line q w
 
       go : Dec (x + s ≤ a) → Dec (a + s ≤ x) → q a ≤ getD dst′ (margin + x) 0 + gap (pos x) (pos a)
       go (yes d) e =
-          let u : gap (pos x) (pos a) + x ≡ a = gap-ahead x a (omega arith) in
-          let v : gap (pos (x + s)) (pos a) + (x + s) ≡ a = gap-ahead (x + s) a d in
-          omega (arith, l .bound (x + s) a (omega arith) ha (omega arith), low .2, same-place (margin + x + s) (margin + (x + s)) (omega arith))
+          let u : gap (pos x) (pos a) ≡ gap (pos (x + s)) (pos a) + s = gap-ahead x s a d in
+          step-bound (getD dst′ (margin + x) 0) (gap (pos (x + s)) (pos a)) s u (l .bound (x + s) a (lt-of-le-of-lt d ha) ha (step-near (gap (pos (x + s)) (pos a)) s u g)) (low .2) (same-place (margin + x + s) (margin + (x + s)) (add-assoc margin x s))
       go (no d) (yes e) =
-          let u : gap (pos x) (pos a) + a ≡ x = gap-back x a (omega arith) in
-          let v : gap (pos (x - s)) (pos a) + a ≡ x - s = gap-back (x - s) a (omega arith) in
-          omega (arith, l .bound (x - s) a (omega arith) ha (omega arith), low .1, same-place (margin + x - s) (margin + (x - s)) (omega arith))
-      go (no d) (no e) = omega (arith, l .bound x a hx ha (omega arith), low .0)
+          let u : gap (pos x) (pos a) ≡ gap (pos (x - s)) (pos a) + s = gap-back x s a e in
+          step-bound (getD dst′ (margin + x) 0) (gap (pos (x - s)) (pos a)) s u (l .bound (x - s) a (lt-of-le-of-lt (sub-le x s) hx) ha (step-near (gap (pos (x - s)) (pos a)) s u g)) (low .1) (same-place (margin + x - s) (margin + (x - s)) (past-margin x s a e))
+      go (no d) (no e) = stay-bound (getD dst′ (margin + x) 0) (gap (pos x) (pos a)) (l .bound x a hx ha (gap-under x s a (lt-of-not-le d) (lt-of-not-le e))) (low .0)
 
   abbrev Met : ℕ → Type 0
   Met x = (getD dst′ (margin + x) 0 ≡ 0) ⊎ ((a : ℕ) × (a < w) × (getD dst′ (margin + x) 0 + gap (pos x) (pos a) ≤ q a))

@@ -23,13 +23,6 @@ pub const MARGIN: usize = 128;
 
 pub const PLACES: usize = 512;
 
-// The difference of two bytes, 0 at least.
-fn less(a: u8, b: u8) -> u8
-    ensures { λ r. ⌜ r ≡ a - b ⌝ }
-{
-    if b < a { a - b } else { 0 }
-}
-
 fn seed_of(seeds: Seeds, n: u8) -> u8
     ensures { λ r. ⌜ r ≡ seed seeds n ⌝ }
 {
@@ -80,7 +73,7 @@ pub fn load_row(head: Head, seeds: Seeds, map: &[u8], y: usize, row: &mut [u8; P
     ensures { λ _. ⌜ Row (λ x. start head seeds (now (map .entry)) x y) (head .width) (now (row .exit)) ⌝ }
 {
     let width = head.width as usize;
-    let edge = less(seed_of(seeds, 0), 1);
+    let edge = window::less(seed_of(seeds, 0), 1);
     let floor = floor_of(y, head.height as usize, edge);
     load_run(seeds, map, y * width, width, floor, row);
     row[MARGIN] = window::higher(row[MARGIN], edge);
@@ -99,7 +92,10 @@ fn spread_step(src: &[u8; PLACES], dst: &mut [u8; PLACES], step: usize, width: u
     while n < MARGIN + width {
         dst[n] = window::higher(
             src[n],
-            window::higher(less(src[n - step], fall), less(src[n + step], fall)),
+            window::higher(
+                window::less(src[n - step], fall),
+                window::less(src[n + step], fall),
+            ),
         );
         n += 1;
     }
@@ -145,7 +141,7 @@ fn join_row(kind: Kind, beside: &[u8; PLACES], row: &mut [u8; PLACES], width: us
 {
     let mut n = MARGIN;
     while n < MARGIN + width {
-        row[n] = window::higher(row[n], less(highest_beside(kind, beside, n), 1));
+        row[n] = window::higher(row[n], window::less(highest_beside(kind, beside, n), 1));
         n += 1;
     }
 }

@@ -2,8 +2,9 @@
 use geometry::Head;
 use geometry::Kind;
 ghost use mathlib.Core.Path.{_≡_};
-ghost use Prim.Native.Nat.{_+_, _<_, _≤_, min, max};
-ghost use lib.ListN.{length};
+ghost use mathlib.Core.List.{[], _∷_};
+ghost use Prim.Native.Nat.{_+_, _-_, _<_, _≤_, min, max};
+ghost use lib.ListN.{length, getD};
 ghost use Rattle.geometry.specs.Plane.{cell};
 ghost use Rattle.geometry.specs.Plate.{at};
 ghost use Rattle.window.specs.Windows.{before, windowOf, windowIn, windowMin, windowMax, inWindow};
@@ -20,36 +21,25 @@ pub fn higher(a: u8, b: u8) -> u8
     if b < a { a } else { b }
 }
 
-// The lowest of the middle and the four that share a side with it.
-fn cross_min(win: [[u8; 3]; 3]) -> u8
-    ensures { λ r. ⌜ r ≡ min (min (inWindow win 0 1) (inWindow win 2 1)) (min (min (inWindow win 1 0) (inWindow win 1 2)) (inWindow win 1 1)) ⌝ }
+// The difference of two bytes, 0 at least.
+pub fn less(a: u8, b: u8) -> u8
+    ensures { λ r. ⌜ r ≡ a - b ⌝ }
 {
-    lower(
-        lower(win[0][1], win[2][1]),
-        lower(lower(win[1][0], win[1][2]), win[1][1]),
-    )
+    if b < a { a - b } else { 0 }
 }
 
-// The lowest of the four corners.
-fn corners_min(win: [[u8; 3]; 3]) -> u8
-    ensures { λ r. ⌜ r ≡ min (min (inWindow win 0 0) (inWindow win 0 2)) (min (inWindow win 2 0) (inWindow win 2 2)) ⌝ }
+// The lowest of three bytes.
+fn row_min(row: [u8; 3]) -> u8
+    ensures { λ r. ⌜ r ≡ min (min (getD row 0 0) (getD row 1 0)) (getD row 2 0) ⌝ }
 {
-    lower(lower(win[0][0], win[0][2]), lower(win[2][0], win[2][2]))
+    lower(lower(row[0], row[1]), row[2])
 }
 
-fn cross_max(win: [[u8; 3]; 3]) -> u8
-    ensures { λ r. ⌜ r ≡ max (max (inWindow win 0 1) (inWindow win 2 1)) (max (max (inWindow win 1 0) (inWindow win 1 2)) (inWindow win 1 1)) ⌝ }
+// The highest of three bytes.
+fn row_max(row: [u8; 3]) -> u8
+    ensures { λ r. ⌜ r ≡ max (max (getD row 0 0) (getD row 1 0)) (getD row 2 0) ⌝ }
 {
-    higher(
-        higher(win[0][1], win[2][1]),
-        higher(higher(win[1][0], win[1][2]), win[1][1]),
-    )
-}
-
-fn corners_max(win: [[u8; 3]; 3]) -> u8
-    ensures { λ r. ⌜ r ≡ max (max (inWindow win 0 0) (inWindow win 0 2)) (max (inWindow win 2 0) (inWindow win 2 2)) ⌝ }
-{
-    higher(higher(win[0][0], win[0][2]), higher(win[2][0], win[2][2]))
+    higher(higher(row[0], row[1]), row[2])
 }
 
 // The lowest of a window among the middle cell and its neighbours.
@@ -57,8 +47,8 @@ pub fn window_min(kind: Kind, win: [[u8; 3]; 3]) -> u8
     ensures { λ r. ⌜ r ≡ windowMin kind win ⌝ }
 {
     match kind {
-        Kind::Diamond => cross_min(win),
-        Kind::Square => lower(cross_min(win), corners_min(win)),
+        Kind::Diamond => lower(lower(win[0][1], win[2][1]), row_min(win[1])),
+        Kind::Square => lower(lower(row_min(win[0]), row_min(win[2])), row_min(win[1])),
     }
 }
 
@@ -67,8 +57,8 @@ pub fn window_max(kind: Kind, win: [[u8; 3]; 3]) -> u8
     ensures { λ r. ⌜ r ≡ windowMax kind win ⌝ }
 {
     match kind {
-        Kind::Diamond => cross_max(win),
-        Kind::Square => higher(cross_max(win), corners_max(win)),
+        Kind::Diamond => higher(higher(win[0][1], win[2][1]), row_max(win[1])),
+        Kind::Square => higher(higher(row_max(win[0]), row_max(win[2])), row_max(win[1])),
     }
 }
 
@@ -100,6 +90,18 @@ fn at_before(head: Head, map: &[u8], i: usize, j: usize) -> u8
     map[number]
 }
 
+// Three numbers of a map side by side: columns i - 1, i and i + 1 of row j - 1, 0 off the plate.
+fn row_before(head: Head, map: &[u8], i: usize, j: usize) -> [u8; 3]
+    requires { ⌜ (i ≤ 65535) × (j ≤ 65537) ⌝ }
+    ensures { λ r. ⌜ r ≡ at head (now (map .entry)) (before i j) ∷ at head (now (map .entry)) (before (i + 1) j) ∷ at head (now (map .entry)) (before (i + 2) j) ∷ [] ⌝ }
+{
+    [
+        at_before(head, map, i, j),
+        at_before(head, map, i + 1, j),
+        at_before(head, map, i + 2, j),
+    ]
+}
+
 // The window of a cell of a map.
 pub fn window_at(head: Head, map: &[u8], column: u16, row: u16) -> [[u8; 3]; 3]
     ensures { λ r. ⌜ r ≡ windowOf head (now (map .entry)) (cell column row) ⌝ }
@@ -107,22 +109,18 @@ pub fn window_at(head: Head, map: &[u8], column: u16, row: u16) -> [[u8; 3]; 3]
     let x = column as usize;
     let y = row as usize;
     [
-        [
-            at_before(head, map, x, y),
-            at_before(head, map, x + 1, y),
-            at_before(head, map, x + 2, y),
-        ],
-        [
-            at_before(head, map, x, y + 1),
-            at_before(head, map, x + 1, y + 1),
-            at_before(head, map, x + 2, y + 1),
-        ],
-        [
-            at_before(head, map, x, y + 2),
-            at_before(head, map, x + 1, y + 2),
-            at_before(head, map, x + 2, y + 2),
-        ],
+        row_before(head, map, x, y),
+        row_before(head, map, x, y + 1),
+        row_before(head, map, x, y + 2),
     ]
+}
+
+// Three bytes of a flat map side by side, the second at place n.
+fn row_in(map: &[u8], n: usize) -> [u8; 3]
+    requires { ⌜ (1 ≤ n) × (n + 1 < length (now map)) ⌝ }
+    ensures { λ r. ⌜ r ≡ getD (now (map .entry)) (n - 1) 0 ∷ getD (now (map .entry)) n 0 ∷ getD (now (map .entry)) (n + 1) 0 ∷ [] ⌝ }
+{
+    [map[n - 1], map[n], map[n + 1]]
 }
 
 // The nine bytes about a number of a flat map: the window of a cell that does not touch the edge.
@@ -131,16 +129,8 @@ pub fn window_in(map: &[u8], width: usize, number: usize) -> [[u8; 3]; 3]
     ensures { λ r. ⌜ r ≡ windowIn (now (map .entry)) width number ⌝ }
 {
     [
-        [
-            map[number - width - 1],
-            map[number - width],
-            map[number - width + 1],
-        ],
-        [map[number - 1], map[number], map[number + 1]],
-        [
-            map[number + width - 1],
-            map[number + width],
-            map[number + width + 1],
-        ],
+        row_in(map, number - width),
+        row_in(map, number),
+        row_in(map, number + width),
     ]
 }

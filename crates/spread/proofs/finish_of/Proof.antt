@@ -1,4 +1,6 @@
 -- `finish_of` is `finish`, by the case of the seeds.
+use Prim.Native.Nat.{_≤_, _<_}
+use native.Mathlib.Omega.{arith}
 use borrow.Author.Needs.{needs}
 use borrow.Author.Tests.{lt-ltb, le-ltb}
 use Rattle.spread.proofs.finish_of.Statement.{statement}
@@ -17,10 +19,10 @@ returns : tie.Need-returns
 returns c = rw (c .before .seeds .given .1)
 
 returns-2 : tie.Need-returns-2
-returns-2 c = rw (c .before .enum-told .given .1, lt-ltb _ _ (c .if1 .taken))
+returns-2 c = let above : 0 < c .before .before .before .args .v = omega arith in rw (c .before .enum-told .given .1, lt-ltb _ _ above)
 
 returns-3 : tie.Need-returns-3
-returns-3 c = rw (c .before .enum-told .given .1, le-ltb _ _ (c .if1 .left))
+returns-3 c = let none : c .before .before .before .args .v ≤ 0 = omega arith in rw (c .before .enum-told .given .1, le-ltb _ _ none)
 
 pub finish-of-spec : {M : Type 1} → statement M
 finish-of-spec =

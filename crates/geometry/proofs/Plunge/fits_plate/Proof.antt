@@ -1,4 +1,5 @@
 -- `Plunge::fits_plate` gives `fitsPlate`: the nested ifs are the definition's four tests, in its order.
+use Prim.Native.Nat.{_+_, _<_}
 use borrow.Author.Tests.{le-leb, lt-leb, lt-ltb, le-ltb}
 use borrow.Author.Needs.{needs}
 use Rattle.geometry.proofs.Plunge.fits_plate.Statement.{statement}
@@ -34,7 +35,9 @@ cast-result-3 c = search needs
 returns : tie.Need-returns
 returns c =
     let d = c .before .before .before .before .before in
-    rw (le-leb _ _ (d .before .before .if1 .taken), le-leb _ _ (d .if2 .taken), lt-ltb _ _ (c .before .before .if3 .taken))
+    let a = d .before .before .before .before .before .args in
+    let across : a .self .column + a .self .reach .0 < a .head .width = c .before .before .if3 .taken in
+    simp (le-leb _ _ (d .before .before .if1 .taken), le-leb _ _ (d .if2 .taken), lt-ltb _ _ across)
 
 returns-2 : tie.Need-returns-2
 returns-2 c =

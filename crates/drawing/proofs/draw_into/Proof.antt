@@ -1,0 +1,43 @@
+-- `draw_into` draws by levels on a plate of zeros; the last level is the drawing.
+use native.Mathlib.Omega.{arith}
+use Rattle.drawing.proofs.Files.{drawn-mapped, zeroed}
+use borrow.Author.Needs.{needs}
+use Rattle.drawing.proofs.draw_into.Statement.{statement}
+use Rattle.drawing.proofs.draw_into.Tie as tie
+
+cast-width : tie.Need-cast-width
+cast-width c = search needs
+
+cast-height : tie.Need-cast-height
+cast-height c = search needs
+
+mul-zero-run : tie.Need-mul-zero-run
+mul-zero-run c = search needs
+
+zero-run-requires : tie.Need-zero-run-requires
+zero-run-requires c κs = search needs
+
+find-ranges-requires : tie.Need-find-ranges-requires
+find-ranges-requires c κs = search needs
+
+draw-levels-requires : tie.Need-draw-levels-requires
+draw-levels-requires c κs = let s = c .before .before .before .before .before .before .before .before .before .before .before .before .before .before in (s .pre .0, s .pre .1, omega (arith, s .pre .2, c .before .before .before .before .before .before .before .before .zero-run .ensures .same), c .before .before .before .find-ranges .ensures, zeroed _ _ _ (c .before .before .before .before .before .before .before .before .zero-run .ensures))
+
+same-length : tie.Need-same-length
+same-length c = search needs
+
+returns : tie.Need-returns
+returns c = let s = c .before .before .before .before .before .before .before .before .before .before .before .before .before .before .before .before .before in drawn-mapped (s .args .head) (s .args .count) _ (s .pre .0) (s .pre .1) _ _ _ (c .before .before .before .before .before .before .before .before .before .before .before .zero-run .ensures) (c .before .before .draw-levels .ensures)
+
+pub draw-into-spec : {M : Type 1} → statement M
+draw-into-spec =
+    tie.close
+    (tie.spec
+    cast-width
+    cast-height
+    mul-zero-run
+    zero-run-requires
+    find-ranges-requires
+    draw-levels-requires
+    same-length
+    returns)

@@ -1,0 +1,151 @@
+// Drawing a list of plunges into a relief, from the largest reach down: the map grows by one, then the plunges of the next reach are placed.
+// Where the reaches of a list rise, each plunge is read twice; in any other order at most once more for each reach.
+use geometry::Head;
+use geometry::Reach;
+use reading::MaybePlunge;
+use sweep::Leaf;
+ghost use mathlib.Core.Path.{_≡_};
+ghost use Prim.Native.Nat.{_+_, _*_, _≤_, _<_, max};
+ghost use mathlib.Core.Bool.{cond};
+ghost use lib.Dec.{eqb};
+ghost use lib.ListN.{length, replicate};
+ghost use Rattle.geometry.specs.Plate.{area};
+ghost use Rattle.theory.specs.Listing.{drawn};
+ghost use Rattle.buffers.specs.Fill.{Mapped};
+ghost use Rattle.rows.specs.Start.{Sides};
+ghost use Rattle.reading.specs.Reading.{plungesUpTo};
+ghost use Rattle.drawing.specs.Levels.{drawnFrom};
+ghost use Rattle.drawing.specs.Files.{plunge, Drawable, reaches, Ranges, Raised};
+
+// How many reaches there are: from 0 to the largest.
+const REACHES: usize = (Reach::MAX.0 as usize) + 1;
+
+// ---- which plunges have a reach
+
+// The reach of a plunge, as a number.
+fn reach_at(head: Head, file: &[u8], count: usize, i: usize) -> usize
+    requires { ⌜ Sides head × Drawable head count (now file) × (i < count) ⌝ }
+    ensures { λ r. ⌜ r ≡ plunge (now (file .entry)) i .reach .0 ⌝ }
+{
+    let maybe = reading::plunge_at(file, 6 + 7 * i);
+    match maybe {
+        MaybePlunge::OfPlunge(q) => q.reach.0 as usize,
+        MaybePlunge::NoPlunge => 0,
+    }
+}
+
+// Where a stretch starts: where it did, or here if there was none.
+fn start_of(first: usize, last: usize, here: usize) -> usize
+    ensures { λ r. ⌜ r ≡ cond (eqb last 0) here first ⌝ }
+{
+    if last == 0 { here } else { first }
+}
+
+// The larger of two numbers.
+fn larger(a: usize, b: usize) -> usize
+    ensures { λ r. ⌜ r ≡ max a b ⌝ }
+{
+    if a < b { b } else { a }
+}
+
+// For each reach the stretch from its first plunge to its last; gives back the largest reach.
+fn find_ranges(
+    head: Head,
+    file: &[u8],
+    count: usize,
+    first: &mut [usize; REACHES],
+    last: &mut [usize; REACHES],
+) -> usize
+    requires { ⌜ Sides head × Drawable head count (now file) × (now first ≡ replicate reaches 0) × (now last ≡ replicate reaches 0) ⌝ }
+    ensures { λ r. ⌜ Ranges (now (file .entry)) count (now (first .exit)) (now (last .exit)) r ⌝ }
+{
+    let mut top = 0;
+    let mut i = 0;
+    while i < count {
+        let reach = reach_at(head, file, count, i);
+        first[reach] = start_of(first[reach], last[reach], i);
+        last[reach] = i + 1;
+        top = larger(top, reach);
+        i += 1;
+    }
+    top
+}
+
+// ---- placing
+
+// A plunge of the reach raises the number at its centre to its depth at least; any other leaves the map as it is.
+fn place_one(head: Head, file: &[u8], count: usize, i: usize, reach: usize, map: &mut [u8])
+    requires { ⌜ Sides head × Drawable head count (now file) × (i < count) × (area head ≤ length (now map)) ⌝ }
+    ensures { λ _. ⌜ Raised head (now (file .entry)) reach i (i + 1) (now (map .entry)) (now (map .exit)) ⌝ }
+{
+    let width = head.width as usize;
+    let maybe = reading::plunge_at(file, 6 + 7 * i);
+    match maybe {
+        MaybePlunge::OfPlunge(q) => {
+            if (q.reach.0 as usize) == reach {
+                let n = (q.row as usize) * width + (q.column as usize);
+                let old = map[n];
+                map[n] = window::higher(old, q.depth);
+            }
+        }
+        MaybePlunge::NoPlunge => {}
+    }
+}
+
+// Places the plunges of one reach in a stretch of the list.
+fn place_range(
+    head: Head,
+    file: &[u8],
+    count: usize,
+    from: usize,
+    to: usize,
+    reach: usize,
+    map: &mut [u8],
+)
+    requires { ⌜ Sides head × Drawable head count (now file) × (from ≤ to) × (to ≤ count) × (area head ≤ length (now map)) ⌝ }
+    ensures { λ _. ⌜ Raised head (now (file .entry)) reach from to (now (map .entry)) (now (map .exit)) ⌝ }
+{
+    let mut i = from;
+    while i < to {
+        place_one(head, file, count, i, reach, map);
+        i += 1;
+    }
+}
+
+// ---- drawing
+
+// From the largest reach down: what is drawn so far grows by one, and the plunges of the next reach are placed.
+fn draw_levels(
+    head: Head,
+    file: &[u8],
+    count: usize,
+    first: &[usize; REACHES],
+    last: &[usize; REACHES],
+    top: usize,
+    map: &mut [u8],
+)
+    requires { ⌜ Sides head × Drawable head count (now file) × (area head ≤ length (now map)) × Ranges (now file) count (now first) (now last) top × Mapped head (λ c. 0) (now map) (now map) ⌝ }
+    ensures { λ _. ⌜ Mapped head (drawnFrom (head .kind) 0 (plungesUpTo count (now (file .entry)))) (now (map .entry)) (now (map .exit)) ⌝ }
+{
+    place_range(head, file, count, first[top], last[top], top, map);
+    let mut reach = top;
+    while 0 < reach {
+        reach -= 1;
+        sweep::sweep(head, Leaf::Highest, reach, map);
+        place_range(head, file, count, first[reach], last[reach], reach, map);
+    }
+}
+
+// Each cell gets the highest depth among the plunges whose ball holds it, 0 if none; bytes past the plate stay.
+pub fn draw_into(head: Head, file: &[u8], count: usize, map: &mut [u8])
+    requires { ⌜ Sides head × Drawable head count (now file) × (area head ≤ length (now map)) ⌝ }
+    ensures { λ _. ⌜ Mapped head (drawn (head .kind) (plungesUpTo count (now (file .entry)))) (now (map .entry)) (now (map .exit)) ⌝ }
+{
+    let width = head.width as usize;
+    let height = head.height as usize;
+    let mut first = [0usize; REACHES];
+    let mut last = [0usize; REACHES];
+    buffers::zero_run(map, 0, height * width);
+    let top = find_ranges(head, file, count, &mut first, &mut last);
+    draw_levels(head, file, count, &first, &last, top, map);
+}

@@ -1,0 +1,204 @@
+-- Demand 3, whole: the canonical-form theorem, about what the tidying call answers and leaves.
+use mathlib.Core.Path.{_≡_, refl, sym, ap, ap₂, _∙_, subst}
+use mathlib.Core.Logic.{_⊎_, inl, inr, _↔_}
+use mathlib.Core.Bool.{Bool, true, false, cond, not}
+use mathlib.Core.List.{List, [], _∷_, _++_, List·Memᴰ, List·Memᴰ·head, List·Memᴰ·tail, List·Memᴰ·not-nil}
+use Prim.Native.Nat.{ℕ, _+_, _*_, _≤_, _<_, min}
+use native.Mathlib.Omega.{arith}
+use lib.ListN.{length, take, drop}
+use lib.Seq.{take-at}
+use Rattle.geometry.specs.declared.Kind.{Kind}
+use Rattle.geometry.specs.declared.Head.{Head}
+use Rattle.geometry.specs.declared.Plunge.{Plunge}
+use Rattle.geometry.specs.Plane.{Cell}
+use Rattle.geometry.specs.Plate.{On, at}
+use Rattle.geometry.specs.Plunges.{Inside, fitsPlate}
+use Rattle.theory.specs.Listing.{Fits, Maximal, Rising, listing, drawn, drawing, canonical}
+use Rattle.theory.proofs.Lists.{gather-out}
+use Rattle.theory.proofs.Plate.{on-or-off, at-tabulated}
+use Rattle.theory.proofs.Plunges.{fitsPlate-iff}
+use Rattle.theory.proofs.Listing.{listed-fits, listed-iff-maximal, fits-inside}
+use Rattle.theory.proofs.Order.{listing-rising}
+use Rattle.theory.proofs.Drawing.{le-drawn}
+use Rattle.theory.proofs.Canonical.{canonical-iff, canonical-draws, canonical-twice}
+use Rattle.refusal.specs.declared.Refusal.{Refusal}
+use Rattle.refusal.specs.declared.Verdict.{Verdict}
+use Rattle.refusal.specs.declared.Verdict.the-variants.{Accepted, Refused}
+use Rattle.refusal.specs.Refusals.{Trial, trial, firstMet, largestRung, written}
+use Rattle.fields.specs.Fields.{encoded, fileLength}
+use Rattle.fields.proofs.Encoding.{encoded-injective, encoded-length}
+use Rattle.reading.proofs.Answers.{after-file, file-read}
+use Rattle.reading.proofs.Readable.{Sound, readable-sound, Writable, encoded-readable, encoded-head, encoded-plunges}
+use Rattle.reading.specs.Reading.{IsReadable, fileTrials, headIn, plungesIn, plungeAt, place, total}
+use Rattle.listing.specs.declared.Extent.{Extent}
+use Rattle.listing.specs.declared.ListAnswer.{ListAnswer}
+use Rattle.listing.specs.declared.ListAnswer.the-variants.{Listed, Unlisted}
+use Rattle.trail.specs.Sent.{common}
+use Rattle.listing.specs.Calls.{roomTrials, listAnswer}
+use Rattle.jobs.specs.Calls.{relief, tidiedPlunges, tidied, workTrial, tidyVerdict, alike, checkVerdict}
+use Rattle.jobs.specs.Canonical.{Tidying, file, Checking, SamePlate, SameRelief, Canonical, CanonicalForm}
+use Rattle.jobs.proofs.Alike.{refused-not, alike-same, alike-equal}
+use Rattle.jobs.proofs.Lengths.{listing-few}
+
+-- ---- what the tidying call gave
+
+-- an answer with a list comes from an accepted call, and says how long it is
+given : (v : Verdict) (qs : List Plunge) (e : Extent) → Listed e ≡ listAnswer v qs → (v ≡ Accepted) × (e .bytes ≡ fileLength (length qs))
+given Accepted qs e h = (refl, cc)
+given (Refused r) qs e h = let z : _≡_ {A = ℕ} 0 1 = cc in absurd (omega arith)
+
+module _ (f : List ℕ) (s : Tidying f) where
+  was : (tidyVerdict f (s .out) (s .a) (s .b) (s .c) ≡ Accepted) × (s .extent .bytes ≡ fileLength (length (tidiedPlunges f)))
+  was = given (tidyVerdict f (s .out) (s .a) (s .b) (s .c)) (tidiedPlunges f) (s .extent) (s .call .list .answer)
+
+  pub tidying-readable : IsReadable f
+  tidying-readable = file-read f _ (was .0)
+
+  -- the bytes of the answer alone are the tidied file
+  pub file-is : file s ≡ tidied f
+  file-is =
+      ap (λ l. take (s .extent .bytes) l) (s .call .list .bytes ∙ ap (λ v. written v (tidied f) (s .out)) (was .0))
+      ∙ take-at (tidied f) (drop (length (tidied f)) (s .out)) (s .extent .bytes) (encoded-length (headIn f) (tidiedPlunges f) ∙ sym (was .1))
+
+-- ---- a readable file, its relief and its tidied file
+
+module _ (f : List ℕ) (ok : IsReadable f) where
+  p : Head
+  p = headIn f
+
+  sound : Sound f
+  sound = readable-sound f ok
+
+  sides : min (headIn f .width) (headIn f .height) ≤ 2 * largestRung
+  sides = omega (arith, sound .narrow)
+
+  good : Writable (headIn f) (tidiedPlunges f)
+  good =
+      record {
+        wide = sound .wide;
+        narrow = sound .narrow;
+        tall = sound .tall;
+        low = sound .low;
+        few = listing-few (headIn f) (relief f) (sound .narrow) (sound .low);
+        right = λ q i. let h = listed-fits (headIn f) largestRung (relief f) q i in (fitsPlate-iff (headIn f) q .1 (h .wholly), h .some);
+      }
+
+  head-same : headIn (tidied f) ≡ headIn f
+  head-same = encoded-head (headIn f) (tidiedPlunges f)
+
+  plunges-same : plungesIn (tidied f) ≡ tidiedPlunges f
+  plunges-same = encoded-plunges (headIn f) (tidiedPlunges f)
+
+  relief-same : relief (tidied f) ≡ drawing (headIn f) (tidiedPlunges f)
+  relief-same = ap₂ drawing head-same plunges-same
+
+  pub draws-again : (c : Cell) → at (headIn (tidied f)) (relief (tidied f)) c ≡ at (headIn f) (relief f) c
+  draws-again c = ap₂ (λ (h : Head) (m : List ℕ). at h m c) head-same relief-same ∙ canonical-draws (headIn f) largestRung sides (plungesIn f) c
+
+  pub tidied-twice : tidied (tidied f) ≡ tidied f
+  tidied-twice =
+      ap₂ (λ (h : Head) (qs : List Plunge). encoded h (canonical h largestRung qs)) head-same plunges-same
+      ∙ ap (encoded (headIn f)) (canonical-twice (headIn f) largestRung sides (plungesIn f))
+
+  -- each plunge of the file fits under the relief that the file draws
+  pub original-fits : (q : Plunge) → List·Memᴰ q (plungesIn f) → Fits (headIn f) (relief f) q
+  original-fits q i = go (gather-out (total f) 0 _ i)
+    where
+      go : (j : ℕ) × (0 ≤ j) × (j < 0 + total f) × List·Memᴰ q (plungeAt f (place j) ∷ []) → Fits (headIn f) (relief f) q
+      go (j, a, b, List·Memᴰ·tail m) = absurd (List·Memᴰ·not-nil m)
+      go (j, a, b, List·Memᴰ·head e) =
+          record {
+            wholly = whole;
+            some = subst (λ (o : Plunge). 1 ≤ o .depth) (sym e) (sound .deep j (omega arith));
+            deep = λ o h. omega (arith, le-drawn (headIn f .kind) (plungesIn f) o i h, at-tabulated (headIn f) (drawn (headIn f .kind) (plungesIn f)) o (whole o h));
+          }
+        where
+          whole : Rattle.geometry.specs.Plunges.OnPlate (headIn f) q
+          whole = fitsPlate-iff (headIn f) q .0 (subst (λ (o : Plunge). fitsPlate (headIn f) o ≡ true) (sym e) (sound .fits j (omega arith)))
+
+  -- the check's answer, with work buffers long enough
+  pub check-is : (s : Checking f) → (s .answer ≡ Accepted) ↔ (tidied f ≡ f)
+  check-is s = (λ e. sym (alike-equal f (tidied f) (back (alike f (tidied f)) (sym verdict ∙ sym (s .call .answer) ∙ e))), λ e. s .call .answer ∙ verdict ∙ ap last (alike-same f (tidied f) (sym e)))
+    where
+      last : Bool → Verdict
+      last b = firstMet (trial (not b) 12 (common f (tidied f)) ∷ [])
+
+      verdict : checkVerdict f (s .a) (s .b) (s .c) ≡ last (alike f (tidied f))
+      verdict = after-file f _ ok ∙ ap (λ (b : Bool). cond b (Refused (record { number = 4; place = 0 })) (last (alike f (tidied f)))) (s .long)
+
+      back : (b : Bool) → last b ≡ Accepted → b ≡ true
+      back true e = refl
+      back false e = refused-not _ e
+
+  canonical-of : Canonical f (tidied f)
+  canonical-of =
+      record {
+        head = head-same;
+        plunges = plunges-same;
+        order = subst Rising (sym plunges-same) (listing-rising (headIn f) largestRung (relief f));
+        readable = encoded-readable (headIn f) (tidiedPlunges f) good;
+        draws = draws-again;
+        maximal = λ q. subst (λ (qs : List Plunge). List·Memᴰ q qs ↔ Maximal (headIn f) (relief f) q) (sym plunges-same) (listed-iff-maximal (headIn f) largestRung (relief f) sides q);
+        covered = λ q h. let t = fits-inside (headIn f) largestRung (relief f) sides q h in (t .0, subst (λ (qs : List Plunge). List·Memᴰ (t .0) qs) (sym plunges-same) (t .1), t .2);
+        original = original-fits;
+        again = λ t. file-is (tidied f) t ∙ tidied-twice;
+        checked = check-is;
+      }
+
+-- ---- two files
+
+head-ext : (p q : Head) → p .kind ≡ q .kind → p .width ≡ q .width → p .height ≡ q .height → p ≡ q
+head-ext p q a b c =
+    ap (λ (k : Kind). record { kind = k; width = p .width; height = p .height }) a
+    ∙ ap (λ (w : ℕ). record { kind = q .kind; width = w; height = p .height }) b
+    ∙ ap (λ (h : ℕ). record { kind = q .kind; width = q .width; height = h }) c
+
+module _ (f g : List ℕ) (okf : IsReadable f) (okg : IsReadable g) where
+  -- one list of plunges for each plate: the tidied files are equal exactly when the plates and the reliefs are
+  tidied-equal : tidied f ≡ tidied g → SamePlate f g × SameRelief f g
+  tidied-equal e = (record { kinds = ap (λ (h : Head). h .kind) heads; widths = ap (λ (h : Head). h .width) heads; heights = ap (λ (h : Head). h .height) heads }, same)
+    where
+      parts : (headIn f ≡ headIn g) × (tidiedPlunges f ≡ tidiedPlunges g)
+      parts = encoded-injective (headIn f) (headIn g) (tidiedPlunges f) (tidiedPlunges g) e
+
+      heads : headIn f ≡ headIn g
+      heads = parts .0
+
+      same : SameRelief f g
+      same c o =
+          canonical-iff (headIn f) largestRung (sides f okf) (plungesIn f) (plungesIn g) .0
+          (parts .1 ∙ sym (ap (λ (h : Head). canonical h largestRung (plungesIn g)) heads)) c
+          ∙ ap (λ (h : Head). at h (drawing h (plungesIn g)) c) heads
+
+  same-tidied : SamePlate f g → SameRelief f g → tidied f ≡ tidied g
+  same-tidied s r = ap (encoded (headIn f)) lists ∙ ap (λ (h : Head). encoded h (canonical h largestRung (plungesIn g))) heads
+    where
+      heads : headIn f ≡ headIn g
+      heads = head-ext (headIn f) (headIn g) (s .kinds) (s .widths) (s .heights)
+
+      every : (c : Cell) → at (headIn f) (relief f) c ≡ at (headIn f) (drawing (headIn f) (plungesIn g)) c
+      every c = go (on-or-off (headIn f) c)
+        where
+          go : On (headIn f) c ⊎ ((m : List ℕ) → at (headIn f) m c ≡ 0) → at (headIn f) (relief f) c ≡ at (headIn f) (drawing (headIn f) (plungesIn g)) c
+          go (inl o) = r c o ∙ sym (ap (λ (h : Head). at h (drawing h (plungesIn g)) c) heads)
+          go (inr z) = z _ ∙ sym (z _)
+
+      lists : tidiedPlunges f ≡ canonical (headIn f) largestRung (plungesIn g)
+      lists = canonical-iff (headIn f) largestRung (sides f okf) (plungesIn f) (plungesIn g) .1 every
+
+-- Demand 3: for any two files, each tidied with buffers long enough
+pub canonical-form : {f g : List ℕ} (s : Tidying f) (t : Tidying g) → CanonicalForm s t
+canonical-form {f} {g} s t =
+    record {
+      equal =
+          ((λ e. tidied-equal f g okf okg (sym (file-is f s) ∙ e ∙ file-is g t)),
+          λ h. file-is f s ∙ same-tidied f g okf okg (h .0) (h .1) ∙ sym (file-is g t));
+      left = subst (Canonical f) (sym (file-is f s)) (canonical-of f okf);
+      right = subst (Canonical g) (sym (file-is g t)) (canonical-of g okg);
+    }
+  where
+    okf : IsReadable f
+    okf = tidying-readable f s
+
+    okg : IsReadable g
+    okg = tidying-readable g t

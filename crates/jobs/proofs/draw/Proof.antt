@@ -1,0 +1,57 @@
+-- `draw` reads, measures, and draws.
+use mathlib.Core.Path.{_≡_, sym, _∙_}
+use native.Mathlib.Omega.{arith}
+use Rattle.reading.proofs.Answers.{read-refused, read-accepted}
+use Rattle.jobs.proofs.Calls.{draw-fault, draw-asks, draw-short, draw-done}
+use borrow.Author.Needs.{needs}
+use Rattle.jobs.proofs.draw.Statement.{statement}
+use Rattle.jobs.proofs.draw.Tie as tie
+use Rattle.drawing.proofs.draw_into.Reads as draw-into-reads
+use Rattle.jobs.proofs.cells_of.Reads as cells-of-reads
+use Rattle.jobs.proofs.too_short.Reads as too-short-reads
+use Rattle.reading.proofs.read.Reads as read-reads
+
+read-requires : tie.Need-read-requires
+read-requires c κs = search needs
+
+enum-known-answer : tie.Need-enum-known-answer
+enum-known-answer c = search needs
+
+enum-known-answer-2 : tie.Need-enum-known-answer-2
+enum-known-answer-2 c = search needs
+
+cells-of-requires : tie.Need-cells-of-requires
+cells-of-requires c κs = search needs
+
+too-short-requires : tie.Need-too-short-requires
+too-short-requires c κs = search needs
+
+returns : tie.Need-returns
+returns c = let w = read-accepted _ (c .before .before .before .before .before .before .before .before .before .before .args .file .now) _ (sym (c .before .before .before .before .before .answer2 .given .1) ∙ c .before .before .before .before .before .before .before .read .ensures) in draw-short (c .before .before .before .before .before .before .before .before .before .before .args .file .now) _ w (c .before .before .before .before .before .before .before .before .before .before .args .out .now) _ (c .too-short .ensures) (omega (arith, c .before .if1 .taken, c .before .before .cells-of .ensures))
+
+draw-into-requires : tie.Need-draw-into-requires
+draw-into-requires c κs = let w = read-accepted _ (c .before .before .before .before .before .before .before .before .before .before .args .file .now) _ (sym (c .before .before .before .before .before .answer2 .given .1) ∙ c .before .before .before .before .before .before .before .read .ensures) in let a = draw-asks (c .before .before .before .before .before .before .before .before .before .before .args .file .now) _ w in (a .0, a .1, omega (arith, c .before .if1 .left, c .before .before .cells-of .ensures))
+
+returns-2 : tie.Need-returns-2
+returns-2 c = draw-fault (c .before .before .before .before .before .before .args .file .now) _ (c .before .before .before .before .before .before .args .out .now) (read-refused _ (c .before .before .before .before .before .before .args .file .now) _ (sym (c .before .answer .given .1) ∙ c .before .before .before .read .ensures))
+
+same-length : tie.Need-same-length
+same-length c = search needs
+
+returns-3 : tie.Need-returns-3
+returns-3 c = let w = read-accepted _ (c .before .before .before .before .before .before .before .before .before .before .before .before .before .args .file .now) _ (sym (c .before .before .before .before .before .before .before .before .answer2 .given .1) ∙ c .before .before .before .before .before .before .before .before .before .before .read .ensures) in draw-done (c .before .before .before .before .before .before .before .before .before .before .before .before .before .args .file .now) _ w (c .before .before .before .before .before .before .before .before .before .before .before .before .before .args .out .now) _ (omega (arith, c .before .before .before .before .if1 .left, c .before .before .before .before .before .cells-of .ensures)) (c .before .before .draw-into .ensures)
+
+pub draw-spec : {M : Type 1} → statement M
+draw-spec =
+    tie.close
+    (tie.spec
+    read-requires
+    enum-known-answer
+    enum-known-answer-2
+    cells-of-requires
+    too-short-requires
+    returns
+    draw-into-requires
+    returns-2
+    same-length
+    returns-3)

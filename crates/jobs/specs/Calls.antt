@@ -1,0 +1,105 @@
+-- Calls on plunge files: what each answers, and what its buffers hold at exit (document 01, "Plunge file, drawing, tidying" and "Refusals in their order").
+use mathlib.Core.Path.{_≡_}
+use mathlib.Core.Bool.{Bool, true, false, cond, not}
+use mathlib.Core.List.{List, [], _∷_, _++_}
+use Prim.Native.Nat.{ℕ, _*_, _≤_, _<_}
+use lib.Dec.{eqb}
+use lib.ListN.{length, getD}
+use Rattle.geometry.specs.declared.Head.{Head}
+use Rattle.geometry.specs.declared.Plunge.{Plunge}
+use Rattle.geometry.specs.Plate.{area}
+use Rattle.theory.specs.Listing.{listing, drawing, canonical}
+use Rattle.refusal.specs.declared.Verdict.{Verdict}
+use Rattle.refusal.specs.Refusals.{Trial, trial, firstMet, mapTrials, short, headOf, largestRung, written, Answered, Worked}
+use Rattle.fields.specs.Fields.{encoded, fileLength}
+use Rattle.reading.specs.Reading.{IsReadable, fileTrials, headIn, plungesIn, total}
+use Rattle.listing.specs.declared.ListAnswer.{ListAnswer}
+use Rattle.trail.specs.Sent.{common}
+use Rattle.listing.specs.Calls.{roomTrials, listAnswer}
+
+-- ---- drawing
+
+-- the relief that a file draws
+abbrev pub relief : List ℕ → List ℕ
+relief f = drawing (headIn f) (plungesIn f)
+
+-- "4: relief, map or work buffer shorter than width × height", of the plate in a file's head
+abbrev pub plateTrial : List ℕ → List ℕ → Trial
+plateTrial f lengths = trial (short (headIn f .width) (headIn f .height) lengths) 4 0
+
+-- "file faults in reading order; then 4"
+abbrev pub drawVerdict : List ℕ → List ℕ → Verdict
+drawVerdict f out = firstMet (fileTrials f ++ (plateTrial f (length out ∷ []) ∷ []))
+
+abbrev pub Drawn : List ℕ → List ℕ → List ℕ → Verdict → Type 0
+Drawn f out = Answered (drawVerdict f out) (relief f) out
+
+-- ---- listing
+
+abbrev pub listed : List ℕ → ℕ → ℕ → ℕ → List Plunge
+listed m k w h = listing (headOf k w h) largestRung m
+
+-- "Arguments are tried in the order 1, 2, 3; … then 4, … 5."
+abbrev pub listVerdict : List ℕ → ℕ → ℕ → ℕ → List ℕ → List ℕ → List ℕ → Verdict
+listVerdict m k w h out a b =
+    firstMet (mapTrials k w h false (length m ∷ length a ∷ length b ∷ []) ++ roomTrials (fileLength (length (listed m k w h))) out)
+
+-- a call that answers with a list: the answer, the file's bytes, two work buffers
+pub record Listing (verdict : Verdict) (p : Head) (qs : List Plunge) (out out′ a a′ b b′ : List ℕ) (r : ListAnswer) : Type 0 where
+  pub answer : r ≡ listAnswer verdict qs
+  pub bytes : out′ ≡ written verdict (encoded p qs) out
+  pub first : Worked verdict (area p) a a′
+  pub second : Worked verdict (area p) b b′
+
+abbrev pub ListCall : List ℕ → ℕ → ℕ → ℕ → List ℕ → List ℕ → List ℕ → List ℕ → List ℕ → List ℕ → ListAnswer → Type 0
+ListCall m k w h out out′ a a′ b b′ = Listing (listVerdict m k w h out a b) (headOf k w h) (listed m k w h) out out′ a a′ b b′
+
+-- ---- tidying
+
+-- "Tidying draws, then lists": the plunges of the tidied file, and its bytes under the original's head
+abbrev pub tidiedPlunges : List ℕ → List Plunge
+tidiedPlunges f = canonical (headIn f) largestRung (plungesIn f)
+
+abbrev pub tidied : List ℕ → List ℕ
+tidied f = encoded (headIn f) (tidiedPlunges f)
+
+abbrev pub workTrial : List ℕ → List ℕ → List ℕ → List ℕ → Trial
+workTrial f a b c = plateTrial f (length a ∷ length b ∷ length c ∷ [])
+
+abbrev pub tidyVerdict : List ℕ → List ℕ → List ℕ → List ℕ → List ℕ → Verdict
+tidyVerdict f out a b c = firstMet (fileTrials f ++ (workTrial f a b c ∷ roomTrials (fileLength (length (tidiedPlunges f))) out))
+
+pub record TidyCall (f out out′ a a′ b b′ c c′ : List ℕ) (r : ListAnswer) : Type 0 where
+  pub list : Listing (tidyVerdict f out a b c) (headIn f) (tidiedPlunges f) out out′ a a′ b b′ r
+  pub third : Worked (tidyVerdict f out a b c) (area (headIn f)) c c′
+
+-- ---- the tidy check
+
+-- two files are equal, in length and in every byte
+abbrev pub alike : List ℕ → List ℕ → Bool
+alike f g = cond (eqb (length f) (length g)) (eqb (common f g) (length f)) false
+
+-- "12: tidy check: file is not tidy", with "the first byte unlike the tidied file"
+abbrev pub checkVerdict : List ℕ → List ℕ → List ℕ → List ℕ → Verdict
+checkVerdict f a b c =
+    firstMet (fileTrials f ++ (workTrial f a b c ∷ trial (not (alike f (tidied f))) 12 (common f (tidied f)) ∷ []))
+
+-- of a readable file whose relief is drawn: its list can be compared with the file's own
+pub record Comparable (p : Head) (n : ℕ) (f m a b : List ℕ) : Type 0 where
+  pub readable : IsReadable f
+  pub bytes : (i : ℕ) → getD f i 0 < 256
+  pub head : p ≡ headIn f
+  pub count : n ≡ total f
+  pub lists : listing p largestRung m ≡ tidiedPlunges f
+  pub relief : area p ≤ length m
+  pub first : area p ≤ length a
+  pub second : area p ≤ length b
+
+abbrev pub Compared : List ℕ → Verdict → Type 0
+Compared f r = r ≡ firstMet (trial (not (alike f (tidied f))) 12 (common f (tidied f)) ∷ [])
+
+pub record CheckCall (f a a′ b b′ c c′ : List ℕ) (r : Verdict) : Type 0 where
+  pub answer : r ≡ checkVerdict f a b c
+  pub first : Worked (checkVerdict f a b c) (area (headIn f)) a a′
+  pub second : Worked (checkVerdict f a b c) (area (headIn f)) b b′
+  pub third : Worked (checkVerdict f a b c) (area (headIn f)) c c′

@@ -1,0 +1,136 @@
+// Calls on plunge files: drawing, listing, tidying, the tidy check. Each tries its arguments and buffers first, in document 01's order.
+use geometry::Head;
+use listing::ListAnswer;
+use reading::ReadAnswer;
+use refusal::Refusal;
+use refusal::Verdict;
+use trail::Pass;
+ghost use mathlib.Core.Path.{_≡_};
+ghost use Prim.Native.Nat.{min};
+ghost use Rattle.geometry.specs.Plate.{area};
+ghost use Rattle.climb.specs.Pairs.{Kept};
+ghost use Rattle.jobs.specs.Calls.{Drawn, ListCall, TidyCall, Comparable, Compared, CheckCall};
+
+// How many cells a plate has.
+fn cells_of(head: Head) -> usize
+    ensures { λ r. ⌜ r ≡ area head ⌝ }
+{
+    (head.height as usize) * (head.width as usize)
+}
+
+// The refusal of a short relief or work buffer.
+fn too_short() -> Refusal
+    ensures { λ r. ⌜ r ≡ record { number = 4; place = 0 } ⌝ }
+{
+    Refusal { number: 4, place: 0 }
+}
+
+fn shortest(a: usize, b: usize, c: usize) -> usize
+    ensures { λ r. ⌜ r ≡ min (min a b) c ⌝ }
+{
+    refusal::shorter(refusal::shorter(a, b), c)
+}
+
+// The relief that a file draws, into out. The file's refusals, then 4.
+pub fn draw(file: &[u8], out: &mut [u8]) -> Verdict
+    ensures { λ r. ⌜ Drawn (now (file .entry)) (now (out .entry)) (now (out .exit)) r ⌝ }
+{
+    let answer = reading::read(file);
+    match answer {
+        ReadAnswer::Unreadable(r) => Verdict::Refused(r),
+        ReadAnswer::Readable(job) => {
+            let head = job.head;
+            if out.len() < cells_of(head) {
+                return Verdict::Refused(too_short());
+            }
+            drawing::draw_into(head, file, job.plunges, out);
+            Verdict::Accepted
+        }
+    }
+}
+
+// The list of a relief, as a file. Refusals 1, 2, 4 and 5.
+pub fn list(
+    relief: &[u8],
+    kind: u8,
+    width: u16,
+    height: u16,
+    out: &mut [u8],
+    a: &mut [u8],
+    b: &mut [u8],
+) -> ListAnswer
+    ensures { λ r. ⌜ ListCall (now (relief .entry)) kind width height (now (out .entry)) (now (out .exit)) (now (a .entry)) (now (a .exit)) (now (b .entry)) (now (b .exit)) r ⌝ }
+{
+    let room = shortest(relief.len(), a.len(), b.len());
+    let verdict = refusal::check_map(kind, width, height, false, room);
+    match verdict {
+        Verdict::Refused(r) => ListAnswer::Unlisted(r),
+        Verdict::Accepted => {
+            let head = refusal::head_of(kind, width, height);
+            listing::list_into(head, relief, out, a, b)
+        }
+    }
+}
+
+// The canonical form of a file: drawn into c, then listed. The file's refusals, then 4 and 5.
+pub fn tidy(file: &[u8], out: &mut [u8], a: &mut [u8], b: &mut [u8], c: &mut [u8]) -> ListAnswer
+    ensures { λ r. ⌜ TidyCall (now (file .entry)) (now (out .entry)) (now (out .exit)) (now (a .entry)) (now (a .exit)) (now (b .entry)) (now (b .exit)) (now (c .entry)) (now (c .exit)) r ⌝ }
+{
+    let answer = reading::read(file);
+    match answer {
+        ReadAnswer::Unreadable(r) => ListAnswer::Unlisted(r),
+        ReadAnswer::Readable(job) => {
+            let head = job.head;
+            let room = shortest(a.len(), b.len(), c.len());
+            if room < cells_of(head) {
+                return ListAnswer::Unlisted(too_short());
+            }
+            drawing::draw_into(head, file, job.plunges, c);
+            listing::list_into(head, c, out, a, b)
+        }
+    }
+}
+
+// Compares the list of the relief that a file draws with the file's own plunges; 12 with the first byte unlike.
+fn compare(
+    head: Head,
+    plunges: usize,
+    file: &[u8],
+    relief: &[u8],
+    a: &mut [u8],
+    b: &mut [u8],
+) -> Verdict
+    requires { ⌜ Comparable head plunges (now file) (now relief) (now a) (now b) ⌝ }
+    ensures { λ r. ⌜ Compared (now (file .entry)) r × Kept head (now (a .entry)) (now (a .exit)) × Kept head (now (b .entry)) (now (b .exit)) ⌝ }
+{
+    let mut none = [0u8; 1];
+    let trail = walk::walk(head, Pass::Compare, relief, file, &mut none, a, b);
+    if trail.like {
+        if trail.at == 6 + 7 * plunges {
+            return Verdict::Accepted;
+        }
+    }
+    Verdict::Refused(Refusal {
+        number: 12,
+        place: trail.at,
+    })
+}
+
+// Whether tidying would return the file's own bytes; else 12 with the first byte unlike. The file's refusals, then 4 and 12.
+pub fn check(file: &[u8], a: &mut [u8], b: &mut [u8], c: &mut [u8]) -> Verdict
+    ensures { λ r. ⌜ CheckCall (now (file .entry)) (now (a .entry)) (now (a .exit)) (now (b .entry)) (now (b .exit)) (now (c .entry)) (now (c .exit)) r ⌝ }
+{
+    let answer = reading::read(file);
+    match answer {
+        ReadAnswer::Unreadable(r) => Verdict::Refused(r),
+        ReadAnswer::Readable(job) => {
+            let head = job.head;
+            let room = shortest(a.len(), b.len(), c.len());
+            if room < cells_of(head) {
+                return Verdict::Refused(too_short());
+            }
+            drawing::draw_into(head, file, job.plunges, c);
+            compare(head, job.plunges, file, c, a, b)
+        }
+    }
+}

@@ -1,0 +1,33 @@
+-- What the listing answers, and what it leaves in its output.
+use mathlib.Core.Path.{_≡_}
+use mathlib.Core.List.{List, [], _∷_}
+use Prim.Native.Nat.{ℕ}
+use lib.Dec.{ltb}
+use lib.ListN.{length}
+use Rattle.geometry.specs.declared.Head.{Head}
+use Rattle.geometry.specs.declared.Plunge.{Plunge}
+use Rattle.theory.specs.Listing.{listing}
+use Rattle.refusal.specs.declared.Verdict.{Verdict}
+use Rattle.refusal.specs.declared.Verdict.the-variants.{Accepted, Refused}
+use Rattle.refusal.specs.Refusals.{Trial, trial, firstMet, largestRung, written}
+use Rattle.fields.specs.Fields.{fileLength, encoded}
+use Rattle.listing.specs.declared.ListAnswer.{ListAnswer}
+use Rattle.listing.specs.declared.ListAnswer.the-variants.{Listed, Unlisted}
+
+-- "5: output buffer shorter than the answer"; its place is "the length needed"
+abbrev pub roomTrials : ℕ → List ℕ → List Trial
+roomTrials n out = trial (ltb (length out) n) 5 n ∷ []
+
+-- the answer to a verdict on a list: how long its file is and how many plunges it has, or the refusal
+abbrev pub listAnswer : Verdict → List Plunge → ListAnswer
+listAnswer Accepted qs = Listed (record { bytes = fileLength (length qs); plunges = length qs })
+listAnswer (Refused r) qs = Unlisted r
+
+-- whether the file of a relief's listing has room in an output
+abbrev pub roomVerdict : Head → List ℕ → List ℕ → Verdict
+roomVerdict p m out = firstMet (roomTrials (fileLength (length (listing p largestRung m))) out)
+
+-- the listing of a relief, answered and written to an output
+pub record ListedInto (p : Head) (m old new : List ℕ) (r : ListAnswer) : Type 0 where
+  pub answer : r ≡ listAnswer (roomVerdict p m old) (listing p largestRung m)
+  pub bytes : new ≡ written (roomVerdict p m old) (encoded p (listing p largestRung m)) old

@@ -1,0 +1,100 @@
+-- Laws of marks: nothing yet, one more, one stretch after another, and where the nine bytes about a place are a cell's window.
+use mathlib.Core.Path.{_≡_, ap, _∙_, subst}
+use mathlib.Core.Bool.{Bool, true, false, cond}
+use mathlib.Core.List.{List}
+use Prim.Native.Nat.{ℕ, zero, suc, _+_, _*_, _-_, _≤_, _<_}
+use native.Mathlib.Omega.{arith}
+use native.Mathlib.Nat.{suc-mul, one-mul, mul-le-mul-right}
+use native.Mathlib.Numerals.{add-one}
+use borrow.Author.Tests.{le-ltb}
+use lib.Dec.{ltb}
+use lib.ListN.{length, getD, set}
+use Rattle.geometry.specs.declared.Head.{Head}
+use Rattle.geometry.specs.Plane.{cell}
+use Rattle.geometry.specs.Plate.{area, at}
+use Rattle.window.specs.Windows.{windowIn, windowMax}
+use Rattle.window.proofs.Windows.{window-interior, window-max-near}
+use Rattle.buffers.proofs.Fill.{filled-none, filled-more, filled-as, filled-on}
+use Rattle.marks.specs.Marks.{markOf, markAt, tally, Marked}
+
+-- ---- one mark
+
+pub mark-small : (a b : ℕ) → markOf a b ≤ 1
+mark-small a b = go (ltb b a)
+  where
+    go : (t : Bool) → cond t 1 0 ≤ 1
+    go true = omega arith
+    go false = omega arith
+
+-- of a number that is 0 nothing is left
+pub mark-zero : (a b : ℕ) → a ≡ 0 → markOf a b ≡ 0
+mark-zero a b e = let g : a ≤ b = omega arith in rw (le-ltb _ _ g)
+
+-- ---- stretches of marks
+
+pub marked-none : (f : ℕ → ℕ) (from : ℕ) (old : List ℕ) → Marked f from from old old 0
+marked-none f from old = record { filled = filled-none f from old; count = omega arith; few = omega arith }
+
+-- one mark more
+pub marked-more : (f : ℕ → ℕ) (from x v r : ℕ) (old mid : List ℕ) → Marked f from x old mid r → from ≤ x → x < length old → v ≡ f x → v ≤ 1 → Marked f from (x + 1) old (set mid x v) (r + v)
+marked-more f from x v r old mid m h l e s =
+    record {
+      filled = filled-more f from x v old mid (m .filled) h l e;
+      count = omega (arith, m .count, ap (tally f) (add-one x));
+      few = omega (arith, m .few);
+    }
+
+-- at a loop's end the column reached is the column meant
+pub marked-end : (f : ℕ → ℕ) (from x to r : ℕ) (old new : List ℕ) → x ≤ to → to ≤ x → Marked f from x old new r → Marked f from to old new r
+marked-end f from x to r old new a b m = let k : x ≡ to = omega arith in subst (λ (j : ℕ). Marked f from j old new r) k m
+
+-- the same with other numbers that agree
+tally-as : (f g : ℕ → ℕ) (from n : ℕ) → ((x : ℕ) → from ≤ x → x < from + n → f x ≡ g x) → tally f (from + n) + tally g from ≡ tally g (from + n) + tally f from
+tally-as f g from zero e = let k : from + 0 ≡ from = omega arith in rw k (omega arith)
+tally-as f g from (suc n) e =
+    let k : from + suc n ≡ suc (from + n) = omega arith in
+    rw k (omega (arith, tally-as f g from n (λ x a b. e x a (omega arith)), e (from + n) (omega arith) (omega arith)))
+
+pub marked-as : (f g : ℕ → ℕ) (from to : ℕ) (old new : List ℕ) (r : ℕ) → from ≤ to → Marked f from to old new r → ((x : ℕ) → from ≤ x → x < to → f x ≡ g x) → Marked g from to old new r
+marked-as f g from to old new r h m e =
+    let k : from + (to - from) ≡ to = omega arith in
+    record {
+      filled = filled-as f g from to old new (m .filled) e;
+      count = omega (arith, m .count, rw k at (tally-as f g from (to - from) (λ x a b. e x a (omega arith))));
+      few = m .few;
+    }
+
+-- a stretch, and then the next one
+pub marked-on : (f : ℕ → ℕ) (from mid to : ℕ) (old half new : List ℕ) (r s : ℕ) → from ≤ mid → mid ≤ to → Marked f from mid old half r → Marked f mid to half new s → Marked f from to old new (r + s)
+marked-on f from mid to old half new r s a b m n =
+    record {
+      filled = filled-on f from mid to old half new a b (m .filled) (n .filled);
+      count = omega (arith, m .count, n .count);
+      few = omega (arith, m .few, n .few);
+    }
+
+-- ---- one row
+
+-- a row's three parts: its first column, the run inside, its last column
+pub row-parts : (p : Head) (prev cur : List ℕ) (row : ℕ) (old first second new : List ℕ) (r s t : ℕ) → 3 ≤ p .width → 1 ≤ row → row + 1 < p .height
+    → Marked (markAt p prev cur row) 0 1 old first r
+    → Marked (λ x. markOf (getD prev (row * p .width + x) 0) (windowMax (p .kind) (windowIn cur (p .width) (row * p .width + x)))) 1 (p .width - 1) first second s
+    → Marked (markAt p prev cur row) (p .width - 1) (p .width) second new t
+    → Marked (markAt p prev cur row) 0 (p .width) old new (r + s + t)
+row-parts p prev cur row old first second new r s t w a b f g h =
+    marked-on (markAt p prev cur row) 0 (p .width - 1) (p .width) old second new (r + s) t (omega arith) (omega arith)
+    (marked-on (markAt p prev cur row) 0 1 (p .width - 1) old first second r s (omega arith) (omega arith) f
+    (marked-as _ (markAt p prev cur row) 1 (p .width - 1) first second s (omega arith) g inner))
+    h
+  where
+    inner : (x : ℕ) → 1 ≤ x → x < p .width - 1 → markOf (getD prev (row * p .width + x) 0) (windowMax (p .kind) (windowIn cur (p .width) (row * p .width + x))) ≡ markAt p prev cur row x
+    inner x c d = ap (markOf (getD prev (row * p .width + x) 0)) (ap (windowMax (p .kind)) (window-interior p cur x row c (omega arith) a b) ∙ window-max-near p cur (cell x row))
+
+-- the places of a row, and of the rows beside it, lie within a buffer that holds the plate
+pub row-room : (p : Head) (row n : ℕ) → row < p .height → area p ≤ n → row * p .width + p .width ≤ n
+row-room p row n h l = omega (arith, mul-le-mul-right (p .width) h, suc-mul row (p .width))
+
+pub run-room : (p : Head) (row n : ℕ) → 1 ≤ row → row + 1 < p .height → area p ≤ n → (p .width ≤ row * p .width) × (row * p .width + p .width + p .width ≤ n)
+run-room p row n h l g =
+    let k : suc (suc row) ≤ p .height = omega arith in
+    (omega (arith, mul-le-mul-right (p .width) h, one-mul (p .width)), omega (arith, mul-le-mul-right (p .width) k, suc-mul (suc row) (p .width), suc-mul row (p .width)))

@@ -1,0 +1,35 @@
+-- Marks of one row: where a residue of two maps is above 0, and how many there are.
+use mathlib.Core.Path.{_≡_}
+use mathlib.Core.Bool.{cond}
+use mathlib.Core.List.{List}
+use Prim.Native.Nat.{ℕ, zero, suc, _+_, _-_, _*_, _≤_}
+use lib.Dec.{ltb}
+use lib.ListN.{getD}
+use Rattle.geometry.specs.declared.Head.{Head}
+use Rattle.geometry.specs.Plane.{cell}
+use Rattle.geometry.specs.Plate.{at}
+use Rattle.theory.specs.Erosion.{highestNear}
+use Rattle.buffers.specs.Fill.{Filled}
+
+-- the places of an array of marks, one for each column of a row
+abbrev pub places : ℕ
+places = 256
+
+-- 1 where b taken off a leaves something, else 0
+abbrev pub markOf : ℕ → ℕ → ℕ
+markOf a b = cond (ltb b a) 1 0
+
+-- the mark of column x in row y: "a cell with residue k above 0", of the rungs k−1 and k in two maps
+abbrev pub markAt : Head → List ℕ → List ℕ → ℕ → ℕ → ℕ
+markAt p prev cur y x = markOf (getD prev (y * p .width + x) 0) (highestNear (p .kind) (at p cur) (cell x y))
+
+-- f 0 + f 1 + … + f (n - 1)
+abbrev pub tally : (ℕ → ℕ) → ℕ → ℕ
+tally f zero = 0
+tally f (suc n) = tally f n + f n
+
+-- the marks of the columns from one up to another; r is how many are 1
+pub record Marked (f : ℕ → ℕ) (from to : ℕ) (old new : List ℕ) (r : ℕ) : Type 0 where
+  pub filled : Filled f from to old new
+  pub count : r + tally f from ≡ tally f to
+  pub few : r ≤ to - from

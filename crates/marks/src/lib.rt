@@ -1,0 +1,103 @@
+// Marks of one row of two erosions: where a cell has a residue above 0, and how many such cells there are.
+use geometry::Head;
+use geometry::Kind;
+ghost use mathlib.Core.Path.{_≡_};
+ghost use Prim.Native.Nat.{_+_, _*_, _≤_, _<_};
+ghost use lib.ListN.{length, getD};
+ghost use Rattle.geometry.specs.Plate.{area};
+ghost use Rattle.window.specs.Windows.{windowIn, windowMax};
+ghost use Rattle.refusal.specs.Refusals.{largestSide};
+ghost use Rattle.marks.specs.Marks.{places, markOf, markAt, Marked};
+
+// A row's marks are held in an array of this length: no plate is wider.
+pub const PLACES: usize = 256;
+
+// 1 where the second number taken off the first leaves something, else 0.
+fn mark(a: u8, b: u8) -> u8
+    ensures { λ r. ⌜ r ≡ markOf a b ⌝ }
+{
+    if b < a { 1 } else { 0 }
+}
+
+// Marks of some columns, with the nine bytes about a place for its window; the row begins at a place. Returns how many are 1.
+fn mark_run(
+    kind: Kind,
+    prev: &[u8],
+    cur: &[u8],
+    width: usize,
+    start: usize,
+    from: usize,
+    to: usize,
+    marks: &mut [u8; PLACES],
+) -> u8
+    requires { ⌜ (width + 1 ≤ start + from) × (from ≤ to) × (to ≤ largestSide) × (start + to + width + 1 ≤ length (now cur)) × (start + to ≤ length (now prev)) × (length (now marks) ≡ places) ⌝ }
+    ensures { λ r. ⌜ Marked (λ x. markOf (getD (now (prev .entry)) (start + x) 0) (windowMax kind (windowIn (now (cur .entry)) width (start + x)))) from to (now (marks .entry)) (now (marks .exit)) r ⌝ }
+{
+    let mut count = 0u8;
+    let mut x = from;
+    while x < to {
+        let n = start + x;
+        let v = mark(
+            prev[n],
+            window::window_max(kind, window::window_in(cur, width, n)),
+        );
+        marks[x] = v;
+        count += v;
+        x += 1;
+    }
+    count
+}
+
+// Marks of some columns of any row, each cell by its own window. Returns how many are 1.
+fn mark_cells(
+    head: Head,
+    prev: &[u8],
+    cur: &[u8],
+    row: u16,
+    from: u16,
+    to: u16,
+    marks: &mut [u8; PLACES],
+) -> u8
+    requires { ⌜ (from ≤ to) × (to ≤ head .width) × (head .width ≤ largestSide) × (row < head .height) × (area head ≤ length (now prev)) × (length (now marks) ≡ places) ⌝ }
+    ensures { λ r. ⌜ Marked (markAt head (now (prev .entry)) (now (cur .entry)) row) from to (now (marks .entry)) (now (marks .exit)) r ⌝ }
+{
+    let kind = head.kind;
+    let start = (row as usize) * (head.width as usize);
+    let mut count = 0u8;
+    let mut x = from;
+    while x < to {
+        let v = mark(
+            prev[start + (x as usize)],
+            window::window_max(kind, window::window_at(head, cur, x, row)),
+        );
+        marks[x as usize] = v;
+        count += v;
+        x += 1;
+    }
+    count
+}
+
+// Marks of one row: of its ends by their windows, of the other columns in one run. Returns how many are 1.
+pub fn mark_row(head: Head, prev: &[u8], cur: &[u8], row: u16, marks: &mut [u8; PLACES]) -> u8
+    requires { ⌜ (head .width ≤ largestSide) × (row < head .height) × (area head ≤ length (now prev)) × (area head ≤ length (now cur)) × (length (now marks) ≡ places) ⌝ }
+    ensures { λ r. ⌜ Marked (markAt head (now (prev .entry)) (now (cur .entry)) row) 0 (head .width) (now (marks .entry)) (now (marks .exit)) r ⌝ }
+{
+    let kind = head.kind;
+    let width = head.width;
+    let height = head.height;
+    if row == 0 {
+        return mark_cells(head, prev, cur, row, 0, width, marks);
+    }
+    if height - 1 <= row {
+        return mark_cells(head, prev, cur, row, 0, width, marks);
+    }
+    if width < 3 {
+        return mark_cells(head, prev, cur, row, 0, width, marks);
+    }
+    let wide = width as usize;
+    let start = (row as usize) * wide;
+    let first = mark_cells(head, prev, cur, row, 0, 1, marks);
+    let inner = mark_run(kind, prev, cur, wide, start, 1, wide - 1, marks);
+    let last = mark_cells(head, prev, cur, row, width - 1, width, marks);
+    first + inner + last
+}

@@ -1,0 +1,4 @@
+pub mod Literals
+pub mod Ranges
+pub mod Changes
+pub mod Calls

@@ -1,0 +1,46 @@
+-- `motions_at` tries the scale, then the number, then gives the motions.
+use mathlib.Core.Path.{_≡_, sym, ap, ap₂, _∙_}
+use native.Mathlib.Omega.{arith}
+use Rattle.reading.proofs.Answers.{plunge-asks}
+use Rattle.motion.specs.Motions.{motionsOf}
+use Rattle.motion.proofs.Calls.{not-true, not-false, scale-refused, number-refused, moves}
+use borrow.Author.Needs.{needs}
+use Rattle.motion.proofs.motions_at.Statement.{statement}
+use Rattle.motion.proofs.motions_at.Tie as tie
+use Rattle.motion.proofs.in_range.Reads as in-range-reads
+use Rattle.motion.proofs.is_changed.Reads as is-changed-reads
+use Rattle.motion.proofs.motions_of.Reads as motions-of-reads
+use Rattle.motion.proofs.plunge_number.Reads as plunge-number-reads
+
+in-range-requires : tie.Need-in-range-requires
+in-range-requires c κs = search needs
+
+returns : tie.Need-returns
+returns c = scale-refused (c .before .before .before .args .file .now) (c .before .before .before .args .i) (c .before .before .before .args .scale) (c .before .before .before .pre .0) (sym (c .before .in-range .ensures) ∙ not-true _ (c .if1 .taken))
+
+returns-2 : tie.Need-returns-2
+returns-2 c = number-refused (c .before .before .before .before .args .file .now) (c .before .before .before .before .args .i) (c .before .before .before .before .args .scale) (c .before .before .before .before .pre .0) (sym (c .before .before .in-range .ensures) ∙ not-false _ (c .before .if1 .left)) (omega (arith, c .before .before .before .before .pre .1, c .if2 .taken))
+
+is-changed-requires : tie.Need-is-changed-requires
+is-changed-requires c κs = search needs
+
+plunge-number-requires : tie.Need-plunge-number-requires
+plunge-number-requires c κs = plunge-asks _ _ (c .before .before .before .before .before .pre .0) (omega (arith, c .before .before .before .before .before .pre .1, c .before .if2 .left))
+
+motions-of-requires : tie.Need-motions-of-requires
+motions-of-requires c κs = search needs
+
+returns-3 : tie.Need-returns-3
+returns-3 c = moves (c .before .before .before .before .before .before .before .args .file .now) (c .before .before .before .before .before .before .before .args .i) (c .before .before .before .before .before .before .before .args .scale) (c .before .before .before .before .before .before .before .pre .0) (sym (c .before .before .before .before .before .in-range .ensures) ∙ not-false _ (c .before .before .before .before .if1 .left)) (omega (arith, c .before .before .before .before .before .before .before .pre .1, c .before .before .before .if2 .left)) _ (c .motions-of .ensures ∙ ap₂ (motionsOf (c .before .before .before .before .before .before .before .args .scale)) (c .before .before .is-changed .ensures) (c .before .plunge-number .ensures))
+
+pub motions-at-spec : {M : Type 1} → statement M
+motions-at-spec =
+    tie.close
+    (tie.spec
+    in-range-requires
+    returns
+    returns-2
+    is-changed-requires
+    plunge-number-requires
+    motions-of-requires
+    returns-3)

@@ -1,0 +1,38 @@
+-- `plunge_motions` reads the file first.
+use mathlib.Core.Path.{_≡_, sym, ap, _∙_}
+use Rattle.reading.proofs.Answers.{read-refused, read-accepted}
+use Rattle.motion.proofs.Calls.{file-refused}
+use borrow.Author.Needs.{needs}
+use Rattle.motion.proofs.plunge_motions.Statement.{statement}
+use Rattle.motion.proofs.plunge_motions.Tie as tie
+use Rattle.motion.proofs.motions_at.Reads as motions-at-reads
+use Rattle.reading.proofs.read.Reads as read-reads
+
+read-requires : tie.Need-read-requires
+read-requires c κs = search needs
+
+enum-known-answer : tie.Need-enum-known-answer
+enum-known-answer c = search needs
+
+enum-known-answer-2 : tie.Need-enum-known-answer-2
+enum-known-answer-2 c = search needs
+
+motions-at-requires : tie.Need-motions-at-requires
+motions-at-requires c κs = let w = read-accepted _ _ _ (sym (c .before .answer2 .given .1) ∙ c .before .before .before .read .ensures) in (w .verdict, w .plunges)
+
+returns : tie.Need-returns
+returns c = file-refused _ _ _ _ (read-refused _ _ _ (sym (c .before .answer .given .1) ∙ c .before .before .before .read .ensures))
+
+returns-2 : tie.Need-returns-2
+returns-2 c = search needs
+
+pub plunge-motions-spec : {M : Type 1} → statement M
+plunge-motions-spec =
+    tie.close
+    (tie.spec
+    read-requires
+    enum-known-answer
+    enum-known-answer-2
+    motions-at-requires
+    returns
+    returns-2)

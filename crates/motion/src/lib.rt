@@ -1,0 +1,166 @@
+// Press motions: what the press does for one plunge of a file, in millimetres, to the last bit.
+use geometry::Plunge;
+use geometry::Reach;
+use reading::MaybePlunge;
+use reading::ReadAnswer;
+use refusal::Refusal;
+ghost use mathlib.Core.Path.{_≡_};
+ghost use mathlib.Core.Bool.{true, false, cond, not};
+ghost use Prim.Native.Nat.{_+_, _-_, _*_, _≤_, _<_};
+ghost use lib.Dec.{eqb};
+ghost use lib.ListN.{length, getD};
+ghost use Rattle.geometry.specs.Forms.{largestReach};
+ghost use Rattle.reading.specs.Reading.{plungeAt, place, total, IsReadable};
+ghost use Rattle.motion.specs.Motions.{within, inRange, changeWidth, travelTo, motionsOf, plungeNumber, changes, motionsIn};
+
+// Millimetres: half the pitch of the cells, and where column 0 and row 0 begin.
+pub struct Scale {
+    pub half_pitch: f64,
+    pub column_offset: f64,
+    pub row_offset: f64,
+}
+
+// One motion with its millimetres: a new electrode's width, none, a place, a depth.
+pub enum Motion {
+    Change(f64),
+    Stay,
+    Travel(f64, f64),
+    Sink(f64),
+}
+
+// The three motions of a plunge, in their order.
+pub struct Motions {
+    pub first: Motion,
+    pub second: Motion,
+    pub third: Motion,
+}
+
+pub enum MotionAnswer {
+    Moves(Motions),
+    NoMoves(Refusal),
+}
+
+// ---- the scale
+
+fn is_within(low: f64, high: f64, x: f64) -> bool
+    ensures { λ r. ⌜ r ≡ within low high x ⌝ }
+{
+    if low <= x { x <= high } else { false }
+}
+
+// Whether all three numbers are in their ranges.
+pub fn in_range(scale: Scale) -> bool
+    ensures { λ r. ⌜ r ≡ inRange scale ⌝ }
+{
+    if is_within(0.0625, 4.0, scale.half_pitch) {
+        if is_within(0.0, 1000.0, scale.column_offset) {
+            is_within(0.0, 1000.0, scale.row_offset)
+        } else {
+            false
+        }
+    } else {
+        false
+    }
+}
+
+// ---- one plunge
+
+fn change_width(scale: Scale, reach: u8) -> f64
+    ensures { λ r. ⌜ r ≡ changeWidth scale reach ⌝ }
+{
+    let n = 2 * (2 * (reach as u32) + 1);
+    (n as f64) * scale.half_pitch
+}
+
+// Two roundings: the product's, then the sum's.
+fn travel_to(half: f64, offset: f64, cell: u16) -> f64
+    ensures { λ r. ⌜ r ≡ travelTo half offset cell ⌝ }
+{
+    let n = 2 * (cell as u32) + 1;
+    offset + (n as f64) * half
+}
+
+fn change_or_stay(scale: Scale, changed: bool, reach: u8) -> Motion
+    ensures { λ r. ⌜ r ≡ cond changed (Motion.Change (changeWidth scale reach)) Motion.Stay ⌝ }
+{
+    if changed {
+        Motion::Change(change_width(scale, reach))
+    } else {
+        Motion::Stay
+    }
+}
+
+// The motions of a plunge, with or without a change before it.
+pub fn motions_of(scale: Scale, changed: bool, q: Plunge) -> Motions
+    ensures { λ r. ⌜ r ≡ motionsOf scale changed q ⌝ }
+{
+    let half = scale.half_pitch;
+    let first = change_or_stay(scale, changed, q.reach.0);
+    let x = travel_to(half, scale.column_offset, q.column);
+    let y = travel_to(half, scale.row_offset, q.row);
+    let z = sink::sink_of(q.depth);
+    Motions {
+        first,
+        second: Motion::Travel(x, y),
+        third: Motion::Sink(z),
+    }
+}
+
+// ---- the call
+
+// Plunge number i, read where its field stands.
+fn plunge_number(file: &[u8], i: usize) -> Plunge
+    requires { ⌜ (place i + 7 ≤ length (now file)) × (getD (now file) (place i + 5) 0 ≤ largestReach) ⌝ }
+    ensures { λ r. ⌜ r ≡ plungeNumber (now (file .entry)) i ⌝ }
+{
+    let found = reading::plunge_at(file, 6 + 7 * i);
+    match found {
+        MaybePlunge::OfPlunge(q) => q,
+        MaybePlunge::NoPlunge => Plunge {
+            column: 0,
+            row: 0,
+            reach: Reach(0),
+            depth: 0,
+        },
+    }
+}
+
+// Whether the electrode changes before plunge number i.
+fn is_changed(file: &[u8], i: usize) -> bool
+    requires { ⌜ IsReadable (now file) × (i < total (now file)) ⌝ }
+    ensures { λ r. ⌜ r ≡ changes (now (file .entry)) i ⌝ }
+{
+    if i == 0 {
+        return true;
+    }
+    let q = plunge_number(file, i);
+    let before = plunge_number(file, i - 1);
+    q.reach.0 != before.reach.0
+}
+
+// Refusals 13 and 14, then the motions of plunge number i of a readable file.
+fn motions_at(file: &[u8], plunges: usize, i: usize, scale: Scale) -> MotionAnswer
+    requires { ⌜ IsReadable (now file) × (plunges ≡ total (now file)) ⌝ }
+    ensures { λ r. ⌜ r ≡ motionsIn (now (file .entry)) i scale ⌝ }
+{
+    if !in_range(scale) {
+        return MotionAnswer::NoMoves(Refusal { number: 13, place: 0 });
+    }
+    if plunges <= i {
+        return MotionAnswer::NoMoves(Refusal { number: 14, place: 0 });
+    }
+    let changed = is_changed(file, i);
+    let q = plunge_number(file, i);
+    MotionAnswer::Moves(motions_of(scale, changed, q))
+}
+
+// The motions of plunge number i of a file. The file's refusals, then 13 and 14.
+pub fn plunge_motions(file: &[u8], i: usize, scale: Scale) -> MotionAnswer
+    ensures { λ r. ⌜ r ≡ motionsIn (now (file .entry)) i scale ⌝ }
+{
+    let answer = reading::read(file);
+    match answer {
+        ReadAnswer::Unreadable(r) => MotionAnswer::NoMoves(r),
+        ReadAnswer::Readable(job) => motions_at(file, job.plunges, i, scale),
+    }
+}

@@ -1,0 +1,4 @@
+// Every map call on long and large plates.
+fn main() {
+    runs::run_input();
+}

@@ -1,0 +1,61 @@
+-- For the calls that read a file first: its faults come before all else, what a readable file's answer says, and where a plunge stands in it.
+use mathlib.Core.Path.{_≡_, refl, sym, ap, _∙_}
+use mathlib.Core.Bool.{Bool, true, false}
+use mathlib.Core.List.{List, _++_}
+use Prim.Native.Nat.{ℕ, _+_, _≤_, _<_}
+use native.Mathlib.Omega.{arith}
+use native.Mathlib.Decide.{decLe}
+use lib.ListN.{length, getD}
+use Rattle.geometry.specs.Forms.{largestReach}
+use Rattle.geometry.specs.Plunges.{fitsPlate}
+use Rattle.refusal.specs.declared.Refusal.{Refusal}
+use Rattle.refusal.specs.declared.Verdict.{Verdict}
+use Rattle.refusal.specs.declared.Verdict.the-variants.{Accepted, Refused}
+use Rattle.refusal.specs.Refusals.{Trial, firstMet}
+use Rattle.reading.specs.declared.Job.{Job}
+use Rattle.reading.specs.declared.ReadAnswer.{ReadAnswer}
+use Rattle.reading.specs.declared.ReadAnswer.the-variants.{Readable, Unreadable}
+use Rattle.reading.specs.Reading.{IsReadable, fileTrials, headIn, plungeAt, place, total, readAnswer}
+use Rattle.reading.proofs.Steps.{andThen, first-append, both-accepted, wide-ball}
+use Rattle.reading.proofs.Readable.{readable-sound}
+
+-- ---- the file's faults first
+
+module _ (f : List ℕ) (us : List Trial) where
+  pub after-file : IsReadable f → firstMet (fileTrials f ++ us) ≡ firstMet us
+  after-file e = first-append (fileTrials f) us ∙ ap (λ (v : Verdict). andThen v (firstMet us)) e
+
+  pub file-fault : (r : Refusal) → firstMet (fileTrials f) ≡ Refused r → firstMet (fileTrials f ++ us) ≡ Refused r
+  file-fault r e = first-append (fileTrials f) us ∙ ap (λ (v : Verdict). andThen v (firstMet us)) e
+
+  pub file-read : firstMet (fileTrials f ++ us) ≡ Accepted → IsReadable f
+  file-read e = both-accepted (firstMet (fileTrials f)) (firstMet us) (sym (first-append (fileTrials f) us) ∙ e) .0
+
+-- ---- what reading said
+
+pub read-refused : (v : Verdict) (f : List ℕ) (r : Refusal) → Unreadable r ≡ readAnswer v f → v ≡ Refused r
+read-refused Accepted f r e = let z : _≡_ {A = ℕ} 0 1 = cc in absurd (omega arith)
+read-refused (Refused q) f r e = ap Refused cc
+
+pub record WasRead (v : Verdict) (f : List ℕ) (j : Job) : Type 0 where
+  pub verdict : v ≡ Accepted
+  pub head : j .head ≡ headIn f
+  pub plunges : j .plunges ≡ total f
+
+pub read-accepted : (v : Verdict) (f : List ℕ) (j : Job) → Readable j ≡ readAnswer v f → WasRead v f j
+read-accepted Accepted f j e = record { verdict = refl; head = cc; plunges = cc }
+read-accepted (Refused q) f j e = let z : _≡_ {A = ℕ} 0 1 = cc in absurd (omega arith)
+
+-- ---- a plunge by its number
+
+-- its field lies in the file, and its reach is one
+pub plunge-asks : (f : List ℕ) (i : ℕ) → IsReadable f → i < total f → (place i + 7 ≤ length f) × (getD f (place i + 5) 0 ≤ largestReach)
+plunge-asks f i ok h = (omega (arith, readable-sound f ok .room), go (decLe (getD f (place i + 5) 0) largestReach))
+  where
+    go : Dec (getD f (place i + 5) 0 ≤ largestReach) → getD f (place i + 5) 0 ≤ largestReach
+    go (yes l) = l
+    go (no l) =
+        let s = readable-sound f ok in
+        let e : _≡_ {A = Bool} true false = sym (s .fits i h) ∙ wide-ball (headIn f) (plungeAt f (place i)) (s .narrow) (omega arith) in
+        let z : _≡_ {A = ℕ} 0 1 = cc in
+        absurd (omega arith)

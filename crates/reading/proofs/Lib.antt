@@ -1,0 +1,5 @@
+pub mod Steps
+pub mod Walk
+pub mod Bytes
+pub mod Readable
+pub mod Answers

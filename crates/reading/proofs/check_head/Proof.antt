@@ -1,0 +1,56 @@
+-- `check_head` gives the first refusal of the head's field: its opening's, or its content's.
+use mathlib.Core.Path.{_∙_}
+use native.Mathlib.Omega.{arith}
+use Rattle.reading.proofs.Steps.{head-room, head-plate, head-fault}
+use borrow.Author.Needs.{needs}
+use Rattle.reading.proofs.check_head.Statement.{statement}
+use Rattle.reading.proofs.check_head.Tie as tie
+
+check-open-requires : tie.Need-check-open-requires
+check-open-requires c κs = search needs
+
+enum-told : tie.Need-enum-told
+enum-told c = search needs
+
+shared-slice-read-check-plate : tie.Need-shared-slice-read-check-plate
+shared-slice-read-check-plate c = omega (arith, head-room (c .before .before .before .before .before .args .file .now) _ (c .before .before .before .check-open .ensures) (c .before .enum-told .given .1))
+
+shared-slice-read-side : tie.Need-shared-slice-read-side
+shared-slice-read-side c = omega (arith, head-room (c .before .before .before .before .before .before .args .file .now) _ (c .before .before .before .before .check-open .ensures) (c .before .before .enum-told .given .1))
+
+side-requires : tie.Need-side-requires
+side-requires c κs = search needs
+
+shared-slice-read-side-2 : tie.Need-shared-slice-read-side-2
+shared-slice-read-side-2 c = omega (arith, head-room (c .before .before .before .before .before .before .before .before .args .file .now) _ (c .before .before .before .before .before .before .check-open .ensures) (c .before .before .before .before .enum-told .given .1))
+
+side-requires-2 : tie.Need-side-requires-2
+side-requires-2 c κs = search needs
+
+check-plate-requires : tie.Need-check-plate-requires
+check-plate-requires c κs = search needs
+
+enum-known-opening : tie.Need-enum-known-opening
+enum-known-opening c = search needs
+
+returns : tie.Need-returns
+returns c = rw (c .before .before .before .side .ensures, c .before .side2 .ensures) at (c .check-plate .ensures) ∙ head-plate (c .before .before .before .before .before .before .before .before .before .before .args .file .now) _ (c .before .before .before .before .before .before .before .before .check-open .ensures) (c .before .before .before .before .before .before .enum-told .given .1)
+
+returns-2 : tie.Need-returns-2
+returns-2 c = head-fault (c .before .before .before .before .before .args .file .now) _ (c .before .before .before .check-open .ensures) _ (c .before .opening .given .1)
+
+pub check-head-spec : {M : Type 1} → statement M
+check-head-spec =
+    tie.close
+    (tie.spec
+    check-open-requires
+    enum-told
+    shared-slice-read-check-plate
+    shared-slice-read-side
+    side-requires
+    shared-slice-read-side-2
+    side-requires-2
+    check-plate-requires
+    enum-known-opening
+    returns
+    returns-2)

@@ -1,0 +1,31 @@
+-- What one field after the head tells the reader.
+use mathlib.Core.Bool.{Bool, true, cond}
+use mathlib.Core.List.{List}
+use Prim.Native.Nat.{ℕ}
+use Rattle.geometry.specs.declared.Head.{Head}
+use Rattle.refusal.specs.declared.Verdict.{Verdict}
+use Rattle.refusal.specs.declared.Verdict.the-variants.{Accepted, Refused}
+use Rattle.refusal.specs.Refusals.{firstMet}
+use Rattle.reading.specs.declared.Step.{Step}
+use Rattle.reading.specs.declared.Step.the-variants.{Onward, Ended, Fault}
+use Rattle.reading.specs.Reading.{opens, isEnd, plungeTrials, endTrials, place, fieldTrials}
+
+-- a field with one of two tags begins at a place
+abbrev pub opensEither : ℕ → ℕ → ℕ → List ℕ → ℕ → Bool
+opensEither tag other size f at = cond (opens tag size f at) true (opens other size f at)
+
+-- a step that stands if nothing is refused
+abbrev pub stepOf : Step → Verdict → Step
+stepOf right Accepted = right
+stepOf right (Refused r) = Fault r
+
+-- past an end field reading ends, past a plunge it goes on
+abbrev pub rightStep : List ℕ → ℕ → Step
+rightStep f at = cond (isEnd f at) Ended Onward
+
+-- the content of a field, and the whole field with n plunges before it
+abbrev pub contentStep : Head → List ℕ → ℕ → ℕ → Step
+contentStep p f at n = stepOf (rightStep f at) (firstMet (cond (isEnd f at) (endTrials f at n) (plungeTrials p f at)))
+
+abbrev pub stepAt : Head → List ℕ → ℕ → Step
+stepAt p f n = stepOf (rightStep f (place n)) (firstMet (fieldTrials p f n))

@@ -1,0 +1,264 @@
+// Reading a plunge file: its first fault in reading order, or its head and the number of its plunges.
+use geometry::Head;
+use geometry::MaybeReach;
+use geometry::Plunge;
+use geometry::Reach;
+use refusal::Refusal;
+use refusal::Verdict;
+ghost use mathlib.Core.Path.{_≡_};
+ghost use Prim.Native.Nat.{suc, _+_, _≤_};
+ghost use lib.ListN.{length};
+ghost use Rattle.refusal.specs.Refusals.{largestSide, firstMet};
+ghost use Rattle.reading.specs.Reading.{opens, headIn, numberAt, openTrials, plateTrials, headTrials, plungeTrials, endTrials, place, fieldsFrom, readAnswer, read, plungeIf};
+ghost use Rattle.reading.specs.Steps.{opensEither, stepOf, contentStep, stepAt};
+
+// What a readable file says: its plate, and how many plunges follow.
+pub struct Job {
+    pub head: Head,
+    pub plunges: usize,
+}
+
+// What reading gives: what the file says, or its first fault.
+pub enum ReadAnswer {
+    Readable(Job),
+    Unreadable(Refusal),
+}
+
+// The plunge of a field, if its reach is one.
+pub enum MaybePlunge {
+    OfPlunge(Plunge),
+    NoPlunge,
+}
+
+// What a field after the head tells: a plunge that is right, the right end, or a fault.
+pub enum Step {
+    Onward,
+    Ended,
+    Fault(Refusal),
+}
+
+// A refusal with its place.
+fn refuse(number: u8, place: usize) -> Verdict
+    ensures { λ r. ⌜ r ≡ Verdict.Refused (record { number = number; place = place }) ⌝ }
+{
+    Verdict::Refused(Refusal { number, place })
+}
+
+// A byte as a length, and as a side, a column or a row.
+fn wide(byte: u8) -> usize
+    ensures { λ r. ⌜ r ≡ byte ⌝ }
+{
+    byte as usize
+}
+
+fn side(byte: u8) -> u16
+    ensures { λ r. ⌜ r ≡ byte ⌝ }
+{
+    byte as u16
+}
+
+// ---- the opening of a field
+
+// Whether a field with this tag and this length begins at a place.
+fn opens(file: &[u8], at: usize, tag: u8, size: usize) -> bool
+    requires { ⌜ at + 3 ≤ length (now file) ⌝ }
+    ensures { λ r. ⌜ r ≡ opens tag size (now (file .entry)) at ⌝ }
+{
+    if file[at] == tag {
+        return 256 * wide(file[at + 1]) + wide(file[at + 2]) == size;
+    }
+    false
+}
+
+// Whether it begins with one of two tags.
+fn opens_either(file: &[u8], at: usize, tag: u8, other: u8, size: usize) -> bool
+    requires { ⌜ at + 3 ≤ length (now file) ⌝ }
+    ensures { λ r. ⌜ r ≡ opensEither tag other size (now (file .entry)) at ⌝ }
+{
+    if opens(file, at, tag, size) {
+        return true;
+    }
+    opens(file, at, other, size)
+}
+
+// Refusals 6, 7 and 6 in their order: three bytes, an allowed tag with its length, the whole content.
+fn check_open(file: &[u8], at: usize, tag: u8, other: u8, size: usize) -> Verdict
+    requires { ⌜ at ≤ length (now file) ⌝ }
+    ensures { λ r. ⌜ r ≡ firstMet (openTrials (now (file .entry)) at (opensEither tag other size (now (file .entry)) at) size) ⌝ }
+{
+    let left = file.len() - at;
+    if left < 3 {
+        return refuse(6, at);
+    }
+    if opens_either(file, at, tag, other, size) {
+        if left - 3 < size {
+            return refuse(6, at);
+        }
+        return Verdict::Accepted;
+    }
+    refuse(7, at)
+}
+
+// ---- the head
+
+// Refusals 1 and 2 in their order.
+fn check_plate(kind: u8, width: u16, height: u16) -> Verdict
+    ensures { λ r. ⌜ r ≡ firstMet (plateTrials kind width height) ⌝ }
+{
+    refusal::check_map(
+        kind,
+        width,
+        height,
+        false,
+        (height as usize) * (width as usize),
+    )
+}
+
+// The first refusal of the head's field.
+fn check_head(file: &[u8]) -> Verdict
+    ensures { λ r. ⌜ r ≡ firstMet (headTrials (now (file .entry))) ⌝ }
+{
+    let opening = check_open(file, 0, 1, 1, 3);
+    match opening {
+        Verdict::Accepted => check_plate(file[3], side(file[4]), side(file[5])),
+        Verdict::Refused(r) => Verdict::Refused(r),
+    }
+}
+
+// ---- a plunge's field
+
+// The plunge of the field at a place.
+pub fn plunge_at(file: &[u8], at: usize) -> MaybePlunge
+    requires { ⌜ at + 7 ≤ length (now file) ⌝ }
+    ensures { λ r. ⌜ r ≡ plungeIf (now (file .entry)) at ⌝ }
+{
+    let maybe = Reach::read(file[at + 5]);
+    match maybe {
+        MaybeReach::OfReach(reach) => MaybePlunge::OfPlunge(Plunge {
+            column: side(file[at + 3]),
+            row: side(file[at + 4]),
+            reach,
+            depth: file[at + 6],
+        }),
+        MaybeReach::NoReach => MaybePlunge::NoPlunge,
+    }
+}
+
+// Refusals 8 and 9 in their order; a reach above the largest leaves every plate.
+fn check_plunge(file: &[u8], head: Head, at: usize) -> Verdict
+    requires { ⌜ (at + 7 ≤ length (now file)) × (head .width ≤ largestSide) ⌝ }
+    ensures { λ r. ⌜ r ≡ firstMet (plungeTrials head (now (file .entry)) at) ⌝ }
+{
+    let maybe = plunge_at(file, at);
+    match maybe {
+        MaybePlunge::OfPlunge(q) => {
+            if q.fits_plate(head) {
+                if file[at + 6] == 0 {
+                    return refuse(9, at);
+                }
+                return Verdict::Accepted;
+            }
+            refuse(8, at)
+        }
+        MaybePlunge::NoPlunge => refuse(8, at),
+    }
+}
+
+// ---- the end field
+
+// The number that the end field at a place holds.
+fn number_at(file: &[u8], at: usize) -> usize
+    requires { ⌜ at + 7 ≤ length (now file) ⌝ }
+    ensures { λ r. ⌜ r ≡ numberAt (now (file .entry)) at ⌝ }
+{
+    let high = 256 * wide(file[at + 3]) + wide(file[at + 4]);
+    let low = 256 * wide(file[at + 5]) + wide(file[at + 6]);
+    65536 * high + low
+}
+
+// Refusals 10 and 11 in their order.
+fn check_end(file: &[u8], at: usize, n: usize) -> Verdict
+    requires { ⌜ at + 7 ≤ length (now file) ⌝ }
+    ensures { λ r. ⌜ r ≡ firstMet (endTrials (now (file .entry)) at n) ⌝ }
+{
+    if number_at(file, at) == n {
+        let next = at + 7;
+        if next < file.len() {
+            return refuse(11, next);
+        }
+        return Verdict::Accepted;
+    }
+    refuse(10, at)
+}
+
+// ---- the file
+
+// What a field tells whose content has this verdict.
+fn after(right: Step, verdict: Verdict) -> Step
+    ensures { λ r. ⌜ r ≡ stepOf right verdict ⌝ }
+{
+    match verdict {
+        Verdict::Accepted => right,
+        Verdict::Refused(r) => Step::Fault(r),
+    }
+}
+
+// What the content of the field at a place tells, with n plunges before it.
+fn content_at(file: &[u8], head: Head, at: usize, n: usize) -> Step
+    requires { ⌜ (at + 7 ≤ length (now file)) × (head .width ≤ largestSide) ⌝ }
+    ensures { λ r. ⌜ r ≡ contentStep head (now (file .entry)) at n ⌝ }
+{
+    if opens(file, at, 3, 4) {
+        return after(Step::Ended, check_end(file, at, n));
+    }
+    after(Step::Onward, check_plunge(file, head, at))
+}
+
+// What the field with n plunges before it tells.
+fn field_at(file: &[u8], head: Head, n: usize) -> Step
+    requires { ⌜ (place n ≤ length (now file)) × (head .width ≤ largestSide) ⌝ }
+    ensures { λ r. ⌜ r ≡ stepAt head (now (file .entry)) n ⌝ }
+{
+    let at = 6 + 7 * n;
+    let opening = check_open(file, at, 3, 2, 4);
+    match opening {
+        Verdict::Accepted => content_at(file, head, at, n),
+        Verdict::Refused(r) => Step::Fault(r),
+    }
+}
+
+// What the fields after a right head come to.
+fn read_fields(file: &[u8], head: Head) -> ReadAnswer
+    requires { ⌜ (6 ≤ length (now file)) × (head ≡ headIn (now file)) × (head .width ≤ largestSide) ⌝ }
+    ensures { λ r. ⌜ r ≡ readAnswer (firstMet (fieldsFrom (suc (length (now (file .entry)))) head (now (file .entry)) 0)) (now (file .entry)) ⌝ }
+{
+    let mut n: usize = 0;
+    loop {
+        let step = field_at(file, head, n);
+        match step {
+            Step::Onward => {
+                n += 1;
+            }
+            Step::Ended => {
+                return ReadAnswer::Readable(Job { head, plunges: n });
+            }
+            Step::Fault(r) => {
+                return ReadAnswer::Unreadable(r);
+            }
+        }
+    }
+}
+
+// The first fault of a file, or what it says.
+pub fn read(file: &[u8]) -> ReadAnswer
+    ensures { λ r. ⌜ r ≡ read (now (file .entry)) ⌝ }
+{
+    let verdict = check_head(file);
+    match verdict {
+        Verdict::Accepted => read_fields(
+            file,
+            refusal::head_of(file[3], side(file[4]), side(file[5])),
+        ),
+        Verdict::Refused(r) => ReadAnswer::Unreadable(r),
+    }
+}

@@ -1,0 +1,17 @@
+-- `sink_of` divides the entry, as a float, by 1000.
+use borrow.Author.Needs.{needs}
+use Rattle.sink.proofs.Table.{literal-1000}
+use Rattle.sink.proofs.sink_of.Statement.{statement}
+use Rattle.sink.proofs.sink_of.Tie as tie
+
+sink-at-requires : tie.Need-sink-at-requires
+sink-at-requires c κs = search needs
+
+int-to-float-result : tie.Need-int-to-float-result
+int-to-float-result c = search needs
+
+returns : tie.Need-returns
+returns c = simp (c .before .sink-at .ensures, literal-1000)
+
+pub sink-of-spec : {M : Type 1} → statement M
+sink-of-spec = tie.close (tie.spec sink-at-requires int-to-float-result returns)

@@ -1,0 +1,55 @@
+-- `send` does with the field what the pass says.
+use Rattle.fields.specs.Fields.{plungeField}
+use Rattle.trail.proofs.Passes.{sent-counted, sent-written, sent-compared}
+use borrow.Author.Needs.{needs}
+use Rattle.trail.proofs.send.Statement.{statement}
+use Rattle.trail.proofs.send.Tie as tie
+
+enum-told : tie.Need-enum-told
+enum-told c = search needs
+
+add-t7 : tie.Need-add-t7
+add-t7 c = search needs
+
+enum-told-2 : tie.Need-enum-told-2
+enum-told-2 c = search needs
+
+put-plunge-requires : tie.Need-put-plunge-requires
+put-plunge-requires c κs = (c .before .before .before .before .before .pre .1 (c .before .enum-told2 .given .1), c .before .before .before .before .before .pre .2, c .before .before .before .before .before .pre .3)
+
+add-t11 : tie.Need-add-t11
+add-t11 c = search needs
+
+enum-told-3 : tie.Need-enum-told-3
+enum-told-3 c = search needs
+
+compare-requires : tie.Need-compare-requires
+compare-requires c κs = search needs
+
+returns : tie.Need-returns
+returns c = sent-counted (c .before .before .before .before .args .pass) (c .before .before .before .before .args .file .now) (c .before .before .before .before .args .at) (plungeField (c .before .before .before .before .args .q)) (c .before .before .before .before .args .out .now) (c .before .before .before .before .args .out .now) (c .enum-told .given .1)
+
+same-length : tie.Need-same-length
+same-length c = search needs
+
+returns-2 : tie.Need-returns-2
+returns-2 c = sent-written (c .before .before .before .before .before .before .before .before .args .pass) (c .before .before .before .before .before .before .before .before .args .file .now) (c .before .before .before .before .before .before .before .before .args .at) (plungeField (c .before .before .before .before .before .before .before .before .args .q)) (c .before .before .before .before .before .before .before .before .args .out .now) _ (c .before .before .before .before .enum-told2 .given .1) (c .before .before .put-plunge .ensures)
+
+returns-3 : tie.Need-returns-3
+returns-3 c = sent-compared (c .before .before .before .before .before .args .pass) (c .before .before .before .before .before .args .file .now) (c .before .before .before .before .before .args .at) (plungeField (c .before .before .before .before .before .args .q)) (c .before .before .before .before .before .args .out .now) (c .before .before .before .before .before .args .out .now) (c .before .enum-told3 .given .1) _ (c .compare .ensures .0) (c .compare .ensures .1)
+
+pub send-spec : {M : Type 1} → statement M
+send-spec =
+    tie.close
+    (tie.spec
+    enum-told
+    add-t7
+    enum-told-2
+    put-plunge-requires
+    add-t11
+    enum-told-3
+    compare-requires
+    returns
+    same-length
+    returns-2
+    returns-3)

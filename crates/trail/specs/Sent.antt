@@ -1,0 +1,43 @@
+-- A pass over bytes that a file is made of: they are counted, written to an output, or compared with a file.
+use mathlib.Core.Path.{_≡_}
+use mathlib.Core.Bool.{cond}
+use mathlib.Core.List.{List, [], _∷_}
+use Prim.Native.Nat.{ℕ, suc, _+_, _≤_, _<_}
+use lib.Dec.{eqb}
+use lib.ListN.{length, drop}
+use Rattle.fields.specs.Writing.{spliced}
+use Rattle.trail.specs.declared.Pass.{Pass}
+use Rattle.trail.specs.declared.Pass.the-variants.{Count, Write, Compare}
+use Rattle.trail.specs.declared.Trail.{Trail}
+
+-- the length of the common beginning of two lists
+abbrev pub common : List ℕ → List ℕ → ℕ
+common fs [] = 0
+common [] (b ∷ bs) = 0
+common (a ∷ fs) (b ∷ bs) = cond (eqb a b) (suc (common fs bs)) 0
+
+-- how many of the bytes bs a pass goes over at a place: a comparison ends at "the first byte unlike", or at the file's end
+abbrev pub reached : Pass → List ℕ → ℕ → List ℕ → ℕ
+reached Count file at bs = length bs
+reached Write file at bs = length bs
+reached Compare file at bs = common (drop at file) bs
+
+-- what a pass leaves of an output
+abbrev pub passed : Pass → List ℕ → ℕ → List ℕ → List ℕ
+passed Count old at bs = old
+passed Write old at bs = spliced old at bs
+passed Compare old at bs = old
+
+-- a pass over the bytes bs from a place on: where it came to, and whether it went over all of them
+pub record Sent (pass : Pass) (file : List ℕ) (at : ℕ) (bs old new : List ℕ) (r : Trail) : Type 0 where
+  pub place : r .at ≡ at + reached pass file at bs
+  pub like : r .like ≡ eqb (reached pass file at bs) (length bs)
+  pub bytes : new ≡ passed pass old at bs
+
+-- a pass that writes has room in the output up to a place
+abbrev pub Room : Pass → ℕ → List ℕ → Type 0
+Room pass n out = pass ≡ Write → n ≤ length out
+
+-- a place that a length can be
+abbrev pub Fits : ℕ → Type 0
+Fits n = n < 18446744073709551616

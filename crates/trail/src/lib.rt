@@ -1,0 +1,75 @@
+// A pass over the plunges of a file, field by field: they are counted, written to an output, or compared with a file.
+use geometry::Plunge;
+ghost use mathlib.Core.Path.{_≡_};
+ghost use Prim.Native.Nat.{_+_, _<_};
+ghost use lib.Dec.{eqb};
+ghost use lib.ListN.{length, drop};
+ghost use Rattle.fields.specs.Fields.{plungeField};
+ghost use Rattle.trail.specs.Sent.{common, Sent, Room, Fits};
+
+// What is done with the bytes of each field.
+pub enum Pass {
+    Count,
+    Write,
+    Compare,
+}
+
+// The place that a pass came to, and whether it went over all that it was sent: if not, the file is unlike there, or ends there.
+pub struct Trail {
+    pub at: usize,
+    pub like: bool,
+}
+
+// How many of some bytes stand in a file from a place on, up to the first unlike one or the file's end.
+pub fn common_run(file: &[u8], at: usize, bytes: &[u8]) -> usize
+    requires { ⌜ Fits (at + length (now bytes)) ⌝ }
+    ensures { λ r. ⌜ r ≡ common (drop at (now (file .entry))) (now (bytes .entry)) ⌝ }
+{
+    let end = bytes.len();
+    let mut i = 0;
+    while i < end {
+        let n = at + i;
+        if file.len() <= n {
+            return i;
+        }
+        if file[n] != bytes[i] {
+            return i;
+        }
+        i += 1;
+    }
+    i
+}
+
+// Compares a plunge's field with a file from a place on.
+fn compare(file: &[u8], at: usize, q: Plunge) -> Trail
+    requires { ⌜ Fits (at + 7) × (q .column < 256) × (q .row < 256) ⌝ }
+    ensures { λ r. ⌜ (r .at ≡ at + common (drop at (now (file .entry))) (plungeField q)) × (r .like ≡ eqb (common (drop at (now (file .entry))) (plungeField q)) 7) ⌝ }
+{
+    let field = [2u8, 0, 4, q.column as u8, q.row as u8, q.reach.0, q.depth];
+    let n = common_run(file, at, &field);
+    Trail {
+        at: at + n,
+        like: n == 7,
+    }
+}
+
+// Sends one plunge at a place: its field is counted, written or compared there. Bytes of the output change only where it is written.
+pub fn send(pass: Pass, file: &[u8], out: &mut [u8], at: usize, q: Plunge) -> Trail
+    requires { ⌜ Fits (at + 7) × Room pass (at + 7) (now out) × (q .column < 256) × (q .row < 256) ⌝ }
+    ensures { λ r. ⌜ Sent pass (now (file .entry)) at (plungeField q) (now (out .entry)) (now (out .exit)) r ⌝ }
+{
+    match pass {
+        Pass::Count => Trail {
+            at: at + 7,
+            like: true,
+        },
+        Pass::Write => {
+            fields::put_plunge(out, at, q);
+            Trail {
+                at: at + 7,
+                like: true,
+            }
+        }
+        Pass::Compare => compare(file, at, q),
+    }
+}

@@ -1,0 +1,98 @@
+-- Laws of a whole walk: the climb from rung to rung, and the levels that were sent on the way.
+use mathlib.Core.Path.{_≡_, refl, sym, _∙_}
+use mathlib.Core.Bool.{true, false}
+use mathlib.Core.List.{List}
+use Prim.Native.Nat.{ℕ, _+_, _*_, _-_, _%_, _≤_, _<_}
+use native.Mathlib.Omega.{arith}
+use lib.ListN.{length, getD}
+use Rattle.geometry.specs.declared.Head.{Head}
+use Rattle.geometry.specs.Lists.{gather}
+use Rattle.geometry.specs.Plate.{area}
+use Rattle.theory.specs.Listing.{listing}
+use Rattle.refusal.specs.Refusals.{largestSide, largestRung}
+use Rattle.buffers.specs.Fill.{Filled}
+use Rattle.buffers.specs.Margin.{Margin}
+use Rattle.climb.specs.Pairs.{PairStep}
+use Rattle.climb.proofs.Pairs.{Climbing, climbing-start, climbing-more, climbing-empty, pair-long, rung-start}
+use Rattle.climb.proofs.Scores.{pair-asks}
+use Rattle.fields.specs.Fields.{plungeFields}
+use Rattle.trail.specs.declared.Pass.{Pass}
+use Rattle.trail.specs.declared.Trail.{Trail}
+use Rattle.trail.specs.Sent.{Sent, Room, Fits}
+use Rattle.trail.proofs.Passes.{Sending, sending-none, sending-room, sending-more, sending-stops, sending-end}
+use Rattle.walk.specs.Rows.{pairPlunges}
+use Rattle.walk.proofs.Plunges.{listedLevel, pair-level, listing-levels, levels-end, walk-fits, sent-as, room-as}
+
+-- where a walk is after k rungs: what its buffers hold, and what it has sent
+pub record Walking (pass : Pass) (file : List ℕ) (p : Head) (m : List ℕ) (k : ℕ) (old a b out a′ b′ : List ℕ) (place : ℕ) : Type 0 where
+  pub climbing : Climbing p m k a b a′ b′
+  pub sending : Sending pass file (listedLevel p m) 6 old k out place
+  pub same : length out ≡ length old
+
+pub walking-start : (pass : Pass) (file : List ℕ) (p : Head) (m old start a b : List ℕ) → area p ≤ length m → area p ≤ length start → area p ≤ length b → Filled (λ n. getD m n 0) 0 (area p) start a → Walking pass file p m 0 old a b old a b 6
+walking-start pass file p m old start a b h l g f =
+    record { climbing = climbing-start p m a b (rung-start p m start a h l f) g; sending = sending-none pass file (listedLevel p m) 6 old; same = refl }
+
+module _ (pass : Pass) (file : List ℕ) (p : Head) (m : List ℕ) (k : ℕ) (old a b out a′ b′ : List ℕ) (place : ℕ) (w : Walking pass file p m k old a b out a′ b′ place) where
+  -- the whole listing is sent
+  pub walking-end : k ≡ largestRung → Sent pass file 6 (plungeFields (listing p largestRung m)) old out (record { at = place; like = true })
+  walking-end e =
+      sent-as pass file 6 _ _ old out _ (sym (listing-levels p largestRung m))
+      (sending-end pass file (listedLevel p m) 6 old k place out (w .sending) largestRung (omega arith) (λ j c d. absurd (omega arith)))
+
+  module _ (room : Room pass (6 + 7 * length (listing p largestRung m)) old) (less : k < largestRung) (a″ b″ : List ℕ) (v : ℕ) (s : PairStep p k a′ b′ a″ b″ v) where
+    up : Climbing p m (k + 1) a b a″ b″
+    up = climbing-more p m k a b a′ b′ (w .climbing) a″ b″ v s
+
+    all : Room pass (6 + 7 * length (gather largestRung 0 (listedLevel p m))) old
+    all = room-as pass 6 _ _ old (listing-levels p largestRung m) room
+
+    level : pairPlunges p (k + 1) a″ b″ ≡ listedLevel p m k
+    level = pair-level p m k a″ b″ (up .pair)
+
+    -- what sending the next level asks
+    pub walking-asks : p .width ≤ largestSide → p .height ≤ largestSide
+        → (1 ≤ k + 1) × (k + 1 ≤ largestRung) × (p .width ≤ largestSide) × (p .height ≤ largestSide) × (area p ≤ length a″) × (area p ≤ length b″)
+        × ((k + 1) % 2 ≡ 0 → Margin p (k + 1 - 1) b″) × ((k + 1) % 2 ≡ 1 → Margin p (k + 1 - 1) a″)
+        × Fits (place + 7 * area p) × Room pass (place + 7 * length (pairPlunges p (k + 1) a″ b″)) out
+    walking-asks c d =
+        let l = pair-long p m (k + 1) a″ b″ (up .pair) in
+        let g = pair-asks p m (k + 1) a″ b″ (up .pair) in (
+          omega arith,
+          omega arith,
+          c,
+          d,
+          l .0,
+          l .1,
+          g .0,
+          g .1,
+          walk-fits pass file p m old out k place c d less (w .sending),
+          room-as pass place _ _ out (sym level) (sending-room pass file (listedLevel p m) 6 old k place out (w .sending) largestRung all less),
+        )
+
+    module _ (new : List ℕ) (t : Trail) (sent : Sent pass file place (plungeFields (pairPlunges p (k + 1) a″ b″)) out new t) where
+      sent′ : Sent pass file place (plungeFields (listedLevel p m k)) out new t
+      sent′ = sent-as pass file place _ _ out new t level sent
+
+      -- one level more
+      pub walking-more : t .like ≡ true → length new ≡ length out → Walking pass file p m (k + 1) old a b new a″ b″ (t .at)
+      walking-more e g =
+          record {
+            climbing = up;
+            sending = sending-more pass file (listedLevel p m) 6 old k place out (w .sending) largestRung all new t sent′ less e;
+            same = g ∙ w .same;
+          }
+
+      -- a level that was unlike ends the walk
+      pub walking-stops : t .like ≡ false → Sent pass file 6 (plungeFields (listing p largestRung m)) old new t
+      walking-stops e =
+          sent-as pass file 6 _ _ old new t (sym (listing-levels p largestRung m))
+          (sending-stops pass file (listedLevel p m) 6 old k place out (w .sending) largestRung all new t sent′ less e)
+
+      -- and so does a rung that is 0 everywhere
+      pub walking-empty : t .like ≡ true → v ≡ 0 → Sent pass file 6 (plungeFields (listing p largestRung m)) old new t
+      walking-empty e z =
+          let c = sending-more pass file (listedLevel p m) 6 old k place out (w .sending) largestRung all new t sent′ less e .sent in
+          sent-as pass file 6 _ _ old new t
+          (sym (levels-end p m (k + 1) largestRung (omega arith) (climbing-empty p m k a b a′ b′ (w .climbing) a″ b″ v s z)) ∙ sym (listing-levels p largestRung m))
+          (record { place = c .place; like = e ∙ c .like; bytes = c .bytes })

@@ -1,0 +1,229 @@
+-- What the marks of a row, the rows of a level and the levels of a climb send is the listing; rows within a margin of zeros send nothing.
+use mathlib.Core.Path.{_≡_, refl, sym, ap, ap₂, _∙_, subst}
+use mathlib.Core.Logic.{_⊎_, inl, inr}
+use mathlib.Core.Bool.{Bool, true, false, cond}
+use mathlib.Core.List.{List, [], _∷_}
+use Prim.Native.Nat.{ℕ, zero, suc, _+_, _*_, _-_, _%_, _≤_, _<_}
+use native.Mathlib.Omega.{arith}
+use native.Mathlib.Nat.{mul-one, mul-le-mul}
+use native.Mathlib.Numerals.{add-one}
+use borrow.Author.Tests.{lt-ltb, le-ltb, ltb-true, ltb-false, eq-eqb, ne-eqb, le-leb}
+use lib.Dec.{eqb, ltb}
+use lib.ListN.{length, getD, length-append}
+use Rattle.geometry.specs.declared.Head.{Head}
+use Rattle.geometry.specs.declared.Plunge.{Plunge}
+use Rattle.geometry.specs.declared.Reach.{Reach}
+use Rattle.geometry.specs.declared.MaybeReach.{MaybeReach}
+use Rattle.geometry.specs.declared.MaybeReach.the-variants.{OfReach, NoReach}
+use Rattle.geometry.specs.Forms.{reachOfClearance}
+use Rattle.geometry.specs.Lists.{gather}
+use Rattle.geometry.specs.Plane.{Cell, cell}
+use Rattle.geometry.specs.Plate.{area, at}
+use Rattle.theory.specs.Erosion.{erosion, highestNear, residue}
+use Rattle.theory.specs.Listing.{listedAt, listing}
+use Rattle.theory.proofs.Lists.{gather-same}
+use Rattle.theory.proofs.Plate.{at-cell}
+use Rattle.theory.proofs.Listing.{listing-stops}
+use Rattle.buffers.specs.Margin.{Margin}
+use Rattle.climb.specs.Pairs.{Turn, Pair}
+use Rattle.climb.proofs.Pairs.{mod-cases}
+use Rattle.climb.proofs.Scores.{turn-residue}
+use Rattle.fields.specs.Fields.{plungeField, plungeFields}
+use Rattle.fields.proofs.Encoding.{plungeFields-length}
+use Rattle.marks.specs.Marks.{markOf, markAt, tally, Marked}
+use Rattle.marks.proofs.Marking.{mark-small, mark-zero}
+use Rattle.trail.specs.declared.Pass.{Pass}
+use Rattle.trail.specs.declared.Pass.the-variants.{Count}
+use Rattle.trail.specs.declared.Trail.{Trail}
+use Rattle.trail.specs.Sent.{Sent, Room, Fits}
+use Rattle.trail.proofs.Passes.{sent-none, sent-counted, gather-turn, gather-few, gather-none, Sending, sending-fits}
+use Rattle.walk.specs.Rows.{onMark, markedAt, marksTo, rowPlunges, levelPlunges, pairPlunges}
+
+-- ---- one row
+
+pub mark-few : (mark : ℕ) (q : Plunge) → length (onMark mark q) ≤ 1
+mark-few mark q = go (eqb mark 0)
+  where
+    go : (t : Bool) → length (cond t [] (q ∷ [])) ≤ 1
+    go true = omega arith
+    go false = omega arith
+
+-- a mark of 0 or 1 is the number of plunges
+mark-length : (mark : ℕ) (q : Plunge) → mark ≤ 1 → length (onMark mark q) ≡ mark
+mark-length zero q h = refl
+mark-length (suc n) q h = let e : suc n ≡ 1 = omega arith in rw e
+
+module _ (p : Head) (prev cur : List ℕ) (r y : ℕ) where
+  abbrev each : ℕ → List Plunge
+  each x = markedAt (p .width) prev r y x (markAt p prev cur y x)
+
+  -- an array with the row's marks sends the row's plunges
+  pub row-marked : (old marks : List ℕ) (n : ℕ) → Marked (markAt p prev cur y) 0 (p .width) old marks n → marksTo (p .width) (p .width) prev r y marks ≡ rowPlunges p prev cur r y
+  row-marked old marks n m = gather-same (p .width) 0 _ each (λ x a b. ap (markedAt (p .width) prev r y x) (m .filled .inside x a (omega arith)))
+
+  -- how many there are
+  each-length : (x : ℕ) → length (each x) ≡ markAt p prev cur y x
+  each-length x = mark-length (markAt p prev cur y x) _ (mark-small (getD prev (y * p .width + x) 0) (highestNear (p .kind) (at p cur) (cell x y)))
+
+  tally-length : (n : ℕ) → length (gather n 0 each) ≡ tally (markAt p prev cur y) n
+  tally-length zero = refl
+  tally-length (suc n) =
+      ap (λ (k : ℕ). length (gather k 0 each)) (sym (add-one n)) ∙ ap length (gather-turn each n) ∙ omega (arith, length-append (gather n 0 each) (each n), tally-length n, each-length n)
+
+  pub row-count : (old marks : List ℕ) (n : ℕ) → Marked (markAt p prev cur y) 0 (p .width) old marks n → n ≡ length (rowPlunges p prev cur r y)
+  row-count old marks n m = omega (arith, m .count, tally-length (p .width))
+
+  pub row-few : length (rowPlunges p prev cur r y) ≤ p .width
+  row-few = omega (arith, gather-few each 1 (λ j. mark-few (markAt p prev cur y j) _) (p .width) 0, mul-one (p .width))
+
+  -- a row within the margin sends nothing
+  pub row-none : (k : ℕ) → Margin p k prev → y < p .height → (y < k) ⊎ (p .height ≤ y + k) → rowPlunges p prev cur r y ≡ []
+  row-none k m h o = gather-none each (p .width) 0 (λ x a b. none x (omega arith))
+    where
+      zeros : (x : ℕ) → x < p .width → (y < k) ⊎ (p .height ≤ y + k) → getD prev (y * p .width + x) 0 ≡ 0
+      zeros x l (inl g) = m .north x y l h g
+      zeros x l (inr g) = m .south x y l h g
+
+      none : (x : ℕ) → x < p .width → each x ≡ []
+      none x l = ap (markedAt (p .width) prev r y x) (mark-zero (getD prev (y * p .width + x) 0) (highestNear (p .kind) (at p cur) (cell x y)) (zeros x l o))
+
+-- ---- passes over a row
+
+empty : {A : Type 0} (l : List A) → length l ≡ 0 → l ≡ []
+empty [] e = refl
+empty (a ∷ l) e = absurd (omega arith)
+
+-- nothing to send
+pub sent-empty : (pass : Pass) (file : List ℕ) (at : ℕ) (qs : List Plunge) (old : List ℕ) → length qs ≡ 0 → Sent pass file at (plungeFields qs) old old (record { at = at; like = true })
+sent-empty pass file at qs old e = subst (λ (l : List Plunge). Sent pass file at (plungeFields l) old old (record { at = at; like = true })) (sym (empty qs e)) (sent-none pass file at old)
+
+-- a count of plunges
+pub sent-number : (pass : Pass) (file : List ℕ) (at n : ℕ) (qs : List Plunge) (old : List ℕ) → pass ≡ Count → n ≡ length qs → Sent pass file at (plungeFields qs) old old (record { at = at + 7 * n; like = true })
+sent-number pass file at n qs old e g =
+    let k : length (plungeFields qs) ≡ 7 * n = omega (arith, plungeFields-length qs) in
+    subst (λ (j : ℕ). Sent pass file at (plungeFields qs) old old (record { at = at + j; like = true })) k (sent-counted pass file at (plungeFields qs) old old e)
+
+-- a pass over plunges that are known by another name
+pub sent-as : (pass : Pass) (file : List ℕ) (at : ℕ) (qs os : List Plunge) (old new : List ℕ) (t : Trail) → qs ≡ os → Sent pass file at (plungeFields qs) old new t → Sent pass file at (plungeFields os) old new t
+sent-as pass file at qs os old new t e s = subst (λ (l : List Plunge). Sent pass file at (plungeFields l) old new t) e s
+
+pub room-as : (pass : Pass) (at : ℕ) (qs os : List Plunge) (old : List ℕ) → qs ≡ os → Room pass (at + 7 * length qs) old → Room pass (at + 7 * length os) old
+room-as pass at qs os old e h = subst (λ (l : List Plunge). Room pass (at + 7 * length l) old) e h
+
+-- a plunge that is not marked, and one that is
+module _ (pass : Pass) (file : List ℕ) (at mark : ℕ) (q : Plunge) (old : List ℕ) where
+  on-none : mark ≡ 0 → onMark mark q ≡ []
+  on-none e = rw (eq-eqb _ _ e)
+
+  on-one : (mark ≡ 0 → ⊥) → onMark mark q ≡ q ∷ []
+  on-one d = rw (ne-eqb _ _ d)
+
+  pub unmarked-sent : mark ≡ 0 → Sent pass file at (plungeFields (onMark mark q)) old old (record { at = at; like = true })
+  unmarked-sent e = sent-as pass file at [] (onMark mark q) old old _ (sym (on-none e)) (sent-none pass file at old)
+
+  pub marked-room : (mark ≡ 0 → ⊥) → Room pass (at + 7 * length (onMark mark q)) old → Room pass (at + 7) old
+  marked-room d h = room-as pass at (onMark mark q) (q ∷ []) old (on-one d) h
+
+  pub marked-sent : (mark ≡ 0 → ⊥) → (new : List ℕ) (t : Trail) → Sent pass file at (plungeField q) old new t → Sent pass file at (plungeFields (onMark mark q)) old new t
+  marked-sent d new t s = sent-as pass file at (q ∷ []) (onMark mark q) old new t (sym (on-one d)) s
+
+-- ---- one level
+
+module _ (p : Head) (prev cur : List ℕ) (r : ℕ) where
+  -- where the margin is all there is
+  pub level-none : (k : ℕ) → Margin p k prev → p .height ≤ k → length (levelPlunges p prev cur r) ≡ 0
+  level-none k m h = ap length (gather-none (rowPlunges p prev cur r) (p .height) 0 (λ y a b. row-none p prev cur r y k m (omega arith) (inl (omega arith))))
+
+-- the plunges of the listing that have one reach
+abbrev pub listedLevel : Head → List ℕ → ℕ → List Plunge
+listedLevel p m r = gather (p .height) 0 (λ y. gather (p .width) 0 (λ x. listedAt p m r x y))
+
+-- a mark stands where a residue is above 0
+mark-residue : (a b : ℕ) (q : Plunge) → onMark (markOf a b) q ≡ cond (ltb 0 (a - b)) (q ∷ []) []
+mark-residue a b q = go (ltb b a) refl
+  where
+    go : (t : Bool) → ltb b a ≡ t → onMark (markOf a b) q ≡ cond (ltb 0 (a - b)) (q ∷ []) []
+    go true e = let g : 0 < a - b = omega (arith, ltb-true b a e) in rw (e, lt-ltb _ _ g)
+    go false e = let g : a - b ≤ 0 = omega (arith, ltb-false b a e) in rw (e, le-ltb _ _ g)
+
+-- two buffers of a climb show the listing's plunges of one reach
+pub turn-level : (p : Head) (m : List ℕ) (k : ℕ) (cur other : List ℕ) → Turn p m (k + 1) cur other → levelPlunges p other cur k ≡ listedLevel p m k
+turn-level p m k cur other t =
+    gather-same (p .height) 0 _ _ (λ y a b. gather-same (p .width) 0 _ _ (λ x c d. same x y (omega arith) (omega arith)))
+  where
+    same : (x y : ℕ) → x < p .width → y < p .height → markedAt (p .width) other k y x (markAt p other cur y x) ≡ listedAt p m k x y
+    same x y h l =
+        let i : k + 1 - 1 ≡ k = omega arith in
+        let d : getD other (y * p .width + x) 0 ≡ erosion p m k (cell x y) = sym (at-cell p other x y h l) ∙ t .behind (omega arith) .holds (cell x y) ∙ ap (λ (j : ℕ). erosion p m j (cell x y)) i in
+        mark-residue (getD other (y * p .width + x) 0) (highestNear (p .kind) (at p cur) (cell x y)) _
+        ∙ ap₂ (λ (v e : ℕ). cond (ltb 0 v) (record { column = x; row = y; reach = record { 0 = k }; depth = e } ∷ []) [])
+        (turn-residue p m (k + 1) cur other t (omega arith) x y h l ∙ ap (λ (j : ℕ). residue p m j (cell x y)) (add-one k)) d
+
+-- after an even number of steps the first buffer has the rung, after an odd number the second
+module _ (p : Head) (k : ℕ) (a b : List ℕ) where
+  pub even-plunges : k % 2 ≡ 0 → pairPlunges p k a b ≡ levelPlunges p b a (k - 1)
+  even-plunges e = rw (eq-eqb _ _ e)
+
+  pub odd-plunges : (k % 2 ≡ 0 → ⊥) → pairPlunges p k a b ≡ levelPlunges p a b (k - 1)
+  odd-plunges d = rw (ne-eqb _ _ d)
+
+pub pair-level : (p : Head) (m : List ℕ) (k : ℕ) (a b : List ℕ) → Pair p m (k + 1) a b → pairPlunges p (k + 1) a b ≡ listedLevel p m k
+pair-level p m k a b q = go (mod-cases (k + 1))
+  where
+    i : k + 1 - 1 ≡ k
+    i = omega arith
+
+    go : ((k + 1) % 2 ≡ 0) ⊎ ((k + 1) % 2 ≡ 1) → pairPlunges p (k + 1) a b ≡ listedLevel p m k
+    go (inl e) = even-plunges p (k + 1) a b e ∙ ap (levelPlunges p b a) i ∙ turn-level p m k a b (q .even e)
+    go (inr e) = odd-plunges p (k + 1) a b (λ z. omega arith) ∙ ap (levelPlunges p a b) i ∙ turn-level p m k b a (q .odd e)
+
+-- ---- reaches
+
+-- a rung number from 1 on is a clearance, and its reach is one less
+pub reach-of : (k : ℕ) → 1 ≤ k → k ≤ 120 → reachOfClearance (record { 0 = k }) ≡ OfReach (record { 0 = k - 1 })
+reach-of zero h l = absurd (omega arith)
+reach-of (suc n) h l =
+    let g : n ≤ 119 = omega arith in
+    let e : suc n - 1 ≡ n = omega arith in
+    rw (le-leb _ _ g, e)
+
+pub reach-is : (k : ℕ) (found : MaybeReach) (reach : Reach) → 1 ≤ k → k ≤ 120 → found ≡ reachOfClearance (record { 0 = k }) → found ≡ OfReach reach → k - 1 ≡ reach .0
+reach-is k found reach h l e g = let z : OfReach (record { 0 = k - 1 }) ≡ OfReach reach = sym (reach-of k h l) ∙ sym e ∙ g in cc
+
+pub reach-some : (k : ℕ) (found : MaybeReach) → 1 ≤ k → k ≤ 120 → found ≡ reachOfClearance (record { 0 = k }) → found ≡ NoReach → ⊥
+reach-some k found h l e g = let z : OfReach (record { 0 = k - 1 }) ≡ NoReach = sym (reach-of k h l) ∙ sym e ∙ g in let o : _≡_ {A = ℕ} 0 1 = cc in omega arith
+
+-- what a level asks and sends, by the reach that was found for its number
+module _ (p : Head) (prev cur : List ℕ) (k : ℕ) (reach : Reach) (same : k - 1 ≡ reach .0) where
+  pub level-margin : Margin p (k - 1) prev → Margin p (reach .0) prev
+  level-margin m = subst (λ (j : ℕ). Margin p j prev) same m
+
+  pub level-plunges : levelPlunges p prev cur (k - 1) ≡ levelPlunges p prev cur (reach .0)
+  level-plunges = ap (levelPlunges p prev cur) same
+
+-- ---- the whole climb
+
+-- the listing, level by level
+pub listing-levels : (p : Head) (limit : ℕ) (m : List ℕ) → listing p limit m ≡ gather limit 0 (listedLevel p m)
+unfolding listing
+listing-levels p limit m = refl
+
+pub listed-few : (p : Head) (m : List ℕ) (r : ℕ) → length (listedLevel p m r) ≤ area p
+listed-few p m r = gather-few _ (p .width) (λ y. omega (arith, gather-few (λ x. listedAt p m r x y) 1 (one y) (p .width) 0, mul-one (p .width))) (p .height) 0
+  where
+    few : (t : Bool) (q : Plunge) → length (cond t (q ∷ []) []) ≤ 1
+    few true q = omega arith
+    few false q = omega arith
+
+    one : (y x : ℕ) → length (listedAt p m r x y) ≤ 1
+    one y x = few (ltb 0 (residue p m (suc r) (cell x y))) _
+
+-- no place of a walk is too large for a length
+pub walk-fits : (pass : Pass) (file : List ℕ) (p : Head) (m : List ℕ) (old mid : List ℕ) (k place : ℕ) → p .width ≤ 240 → p .height ≤ 240 → k < 120
+    → Sending pass file (listedLevel p m) 6 old k mid place → Fits (place + 7 * area p)
+walk-fits pass file p m old mid k place a b h s =
+    omega (arith, sending-fits pass file (listedLevel p m) 6 old k place mid s (area p) 120 (listed-few p m) h, mul-le-mul b a)
+
+-- past an erosion that is 0 everywhere no level has plunges
+pub levels-end : (p : Head) (m : List ℕ) (k limit : ℕ) → k ≤ limit → ((c : Cell) → erosion p m k c ≡ 0) → gather limit 0 (listedLevel p m) ≡ gather k 0 (listedLevel p m)
+levels-end p m k limit h z = sym (listing-levels p limit m) ∙ listing-stops p limit m k h z ∙ listing-levels p k m

@@ -1,0 +1,151 @@
+/* haruseopda.h: plunge lists, rungs and axes for the sinking press.
+ *
+ * A relief is a byte of depth for each cell of a plate, row after row; a map is any byte for each cell. A plate has 1 to 240 columns and 1 to 240
+ * rows, counted from 0, row 0 on top; cells off the plate have depth 0. Kind 4 is the diamond (distance is column difference plus row difference),
+ * kind 8 the square (the larger difference). A job file is fields of a tag, a two-byte length and a content, see docs/CANONICAL.md.
+ *
+ * Every call
+ *   - takes each buffer as a pointer and its length in bytes, and reads and writes nothing outside it. The caller owns all buffers; nothing is kept
+ *     after the call returns, nothing is allocated. A pointer may be anything if its length is 0.
+ *   - may be given buffers longer than needed: bytes past what it reads or writes are ignored, and stay as they are.
+ *   - wants buffers that do not overlap, except that buffers that are only read may be the same. Nothing else is asked of any argument.
+ *   - ends, for every content and length, with number 0 (done) or the first refusal of the table in its order. A refusal leaves every output as it
+ *     was; work buffers too, but after 5 and 12 their first width * height bytes hold anything, as they do when the call is done.
+ *   - may be made from several threads at once, if they share no buffer that one of them writes.
+ *
+ * Refusals (place is 0 unless said otherwise), tried in the order 1, 2, 3; the file's 6 to 11, 1 and 2 in reading order; then 4, 13, 14, 12, 5:
+ *    1  kind is not 4 or 8 (in a file: at the head field)
+ *    2  width or height is not 1 to 240 (in a file: at the head field)
+ *    3  level 0; rung or residue number not 1 to 120; single cell off the plate
+ *    4  a relief, map or work buffer is shorter than width * height
+ *    5  the output file is shorter than the answer; place is the length needed
+ *    6  the file ends inside a field (place: the field's first byte) or without an end field (place: the file's length)
+ *    7  tag or length not allowed here (place: the field's first byte, as for 8, 9 and 10)
+ *    8  the ball leaves the plate
+ *    9  depth 0
+ *   10  the end number is not the number of plunges
+ *   11  bytes after the end field (place: the first of them)
+ *   12  tidy check: the file is not tidy (place: the first byte unlike the tidied file)
+ *   13  a scale number is outside its range or not a number
+ *   14  the plunge number is not below the total
+ *
+ * Link with libcapi.a, which `rt staticlib capi` writes to target/staticlib.
+ */
+#ifndef HARUSEOPDA_H
+#define HARUSEOPDA_H
+
+#include <stddef.h>
+#include <stdint.h>
+
+#ifdef __cplusplus
+extern "C" {
+#endif
+
+/* number: 0, or a refusal. value: what the call gives, 0 if it gives none or refuses. place: of a refusal. */
+typedef struct {
+    uint32_t number;
+    uint32_t value;
+    size_t place;
+} haru_answer;
+
+/* ---- maps of one level: refusals 1, 2, 3, 4. No work buffers. */
+
+/* The clearance of one cell, as the value: the distance to the nearest cell that is less deep than level (1 to 255), off-plate cells included. */
+haru_answer haru_clearance(const uint8_t *relief, size_t relief_len, uint8_t kind, uint16_t width, uint16_t height, uint8_t level, uint16_t column,
+                           uint16_t row);
+
+/* The clearance of each cell, into out. */
+haru_answer haru_clearance_map(const uint8_t *relief, size_t relief_len, uint8_t kind, uint16_t width, uint16_t height, uint8_t level, uint8_t *out,
+                               size_t out_len);
+
+/* The medial axis, into out: the clearance where no neighbour's is larger, else 0. */
+haru_answer haru_axis_map(const uint8_t *relief, size_t relief_len, uint8_t kind, uint16_t width, uint16_t height, uint8_t level, uint8_t *out,
+                          size_t out_len);
+
+/* Drawing back from any byte map, into out: 1 where some cell's number exceeds the distance to it, else 0. Refusals 1, 2, 4. */
+haru_answer haru_reconstruct(const uint8_t *map, size_t map_len, uint8_t kind, uint16_t width, uint16_t height, uint8_t *out, size_t out_len);
+
+/* ---- maps of all levels: refusals 1, 2, 3 (a number not 1 to 120), 4. Work buffers a and b, each of width * height bytes. */
+
+/* Rung `number`, into out: the lowest depth within that distance (an erosion). */
+haru_answer haru_rung_map(const uint8_t *relief, size_t relief_len, uint8_t kind, uint16_t width, uint16_t height, uint16_t number, uint8_t *out,
+                          size_t out_len, uint8_t *a, size_t a_len, uint8_t *b, size_t b_len);
+
+/* Residue `number`, into out: rung number - 1 less the highest rung `number` among the cell and its neighbours. */
+haru_answer haru_residue_map(const uint8_t *relief, size_t relief_len, uint8_t kind, uint16_t width, uint16_t height, uint16_t number, uint8_t *out,
+                             size_t out_len, uint8_t *a, size_t a_len, uint8_t *b, size_t b_len);
+
+/* Each cell's largest residue, or the sum of its residues 1 to 120, into out. */
+haru_answer haru_largest_residue_map(const uint8_t *relief, size_t relief_len, uint8_t kind, uint16_t width, uint16_t height, uint8_t *out,
+                                     size_t out_len, uint8_t *a, size_t a_len, uint8_t *b, size_t b_len);
+haru_answer haru_residue_sum_map(const uint8_t *relief, size_t relief_len, uint8_t kind, uint16_t width, uint16_t height, uint8_t *out, size_t out_len,
+                                 uint8_t *a, size_t a_len, uint8_t *b, size_t b_len);
+
+/* The sum of all depths, as the value. Refusals 2, 4. */
+haru_answer haru_volume(const uint8_t *relief, size_t relief_len, uint16_t width, uint16_t height);
+
+/* ---- job files */
+
+/* number, place: as above; kind, width, height: of the head; plunges: how many. All 0 but number and place on a refusal. */
+typedef struct {
+    uint32_t number;
+    uint32_t kind;
+    uint32_t width;
+    uint32_t height;
+    size_t place;
+    size_t plunges;
+} haru_job;
+
+/* Reads a file: its first fault in reading order, or what it says. Refusals 1, 2, 6 to 11. */
+haru_job haru_read(const uint8_t *file, size_t file_len);
+
+/* Draws a file into out, a relief: at each cell the highest depth among plunges whose ball holds it, 0 if none. The file's refusals, 4. */
+haru_answer haru_draw(const uint8_t *file, size_t file_len, uint8_t *out, size_t out_len);
+
+/* bytes: how long the answer's file is, 13 + 7 * plunges. Both 0 on a refusal. */
+typedef struct {
+    uint32_t number;
+    size_t place;
+    size_t bytes;
+    size_t plunges;
+} haru_list_answer;
+
+/* Lists a relief as a file into out. Refusals 1, 2, 4, 5. Work buffers a and b, each of width * height bytes. */
+haru_list_answer haru_list(const uint8_t *relief, size_t relief_len, uint8_t kind, uint16_t width, uint16_t height, uint8_t *out, size_t out_len,
+                           uint8_t *a, size_t a_len, uint8_t *b, size_t b_len);
+
+/* Tidies a file into out: its canonical form. The file's refusals, 4, 5. Work buffers a, b and c, each of width * height bytes. */
+haru_list_answer haru_tidy(const uint8_t *file, size_t file_len, uint8_t *out, size_t out_len, uint8_t *a, size_t a_len, uint8_t *b, size_t b_len,
+                           uint8_t *c, size_t c_len);
+
+/* Whether tidying would return the file's own bytes: number 0, else 12 with the first byte unlike. The file's refusals, 4, 12. Work buffers as above. */
+haru_answer haru_check(const uint8_t *file, size_t file_len, uint8_t *a, size_t a_len, uint8_t *b, size_t b_len, uint8_t *c, size_t c_len);
+
+/* ---- press motions */
+
+/* Millimetres: half the pitch of the cells (0.0625 to 4), and the offsets of columns and rows (0 to 1000 each), ends included. */
+typedef struct {
+    double half_pitch;
+    double column_offset;
+    double row_offset;
+} haru_scale;
+
+/* changed: 1 for a change to an electrode `width` wide, 0 for a stay (width is then 0). x, y: where to travel. sink: how deep. Millimetres. */
+typedef struct {
+    uint32_t number;
+    uint32_t changed;
+    size_t place;
+    double width;
+    double x;
+    double y;
+    double sink;
+} haru_motions_answer;
+
+/* The motions of plunge number i (from 0) of a file. The file's refusals, 13, 14. */
+haru_motions_answer haru_motions(const uint8_t *file, size_t file_len, size_t i, haru_scale scale);
+
+#ifdef __cplusplus
+}
+#endif
+
+#endif
