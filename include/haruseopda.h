@@ -41,7 +41,7 @@
 extern "C" {
 #endif
 
-/* number: 0, or a refusal. value: what the call gives, 0 if it gives none or refuses. place: of a refusal. */
+/* number: 0, or a refusal. value: what the call gives, 0 if it gives none or refuses. place: of a refusal, else 0. */
 typedef struct {
     uint32_t number;
     uint32_t value;
@@ -86,7 +86,7 @@ haru_answer haru_volume(const uint8_t *relief, size_t relief_len, uint16_t width
 
 /* ---- job files */
 
-/* number, place: as above; kind, width, height: of the head; plunges: how many. All 0 but number and place on a refusal. */
+/* number, place: as above; kind, width, height: of the head; plunges: how many. These four are 0 on a refusal. */
 typedef struct {
     uint32_t number;
     uint32_t kind;
@@ -130,7 +130,8 @@ typedef struct {
     double row_offset;
 } haru_scale;
 
-/* changed: 1 for a change to an electrode `width` wide, 0 for a stay (width is then 0). x, y: where to travel. sink: how deep. Millimetres. */
+/* changed: 1 for a change to an electrode `width` wide, 0 for a stay (width is then 0). x, y: where to travel. sink: how deep. Millimetres; changed and all
+ * four are 0 on a refusal. */
 typedef struct {
     uint32_t number;
     uint32_t changed;

@@ -282,10 +282,10 @@ def printed(r):
         assert max(got) <= 255 and len(got) == r["w"] * r["h"]
         out[:len(got)] = got
     text = first + (f"refused {number} 0\n" if number else "ok\n")
-    if len(out) <= 20:
-        text += " ".join(map(str, out)) + "\n"
+    if len(out) <= 64:
+        text += " ".join(f"{b:02x}" for b in out) + "\n"
     else:
-        text += f"{sum(out)} {sum(b * (i % 251 + 1) for i, b in enumerate(out))}\n"
+        text += f"sums {sum(out)} {sum(b * (i % 251 + 1) for i, b in enumerate(out))}\n"
     if number and r["op"] in (RUNG, RESIDUE, LARGEST, SUM):
         text += "work kept\n"
     return text

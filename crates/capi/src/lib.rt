@@ -32,7 +32,11 @@ fn of_verdict(verdict: Verdict) -> HaruAnswer
     ensures { λ r. ⌜ r ≡ ofVerdict verdict ⌝ }
 {
     match verdict {
-        Verdict::Accepted => HaruAnswer { number: 0, value: 0, place: 0 },
+        Verdict::Accepted => HaruAnswer {
+            number: 0,
+            value: 0,
+            place: 0,
+        },
         Verdict::Refused(r) => HaruAnswer {
             number: r.number as u32,
             value: 0,
@@ -62,7 +66,11 @@ fn of_volume(answer: VolumeAnswer) -> HaruAnswer
     ensures { λ r. ⌜ r ≡ ofVolume answer ⌝ }
 {
     match answer {
-        VolumeAnswer::Volume(volume) => HaruAnswer { number: 0, value: volume, place: 0 },
+        VolumeAnswer::Volume(volume) => HaruAnswer {
+            number: 0,
+            value: volume,
+            place: 0,
+        },
         VolumeAnswer::NoVolume(r) => HaruAnswer {
             number: r.number as u32,
             value: 0,
@@ -323,12 +331,7 @@ pub extern "C" fn haru_tidy(
 
 // Whether a file is its own canonical form.
 #[no_mangle]
-pub extern "C" fn haru_check(
-    file: &[u8],
-    a: &mut [u8],
-    b: &mut [u8],
-    c: &mut [u8],
-) -> HaruAnswer
+pub extern "C" fn haru_check(file: &[u8], a: &mut [u8], b: &mut [u8], c: &mut [u8]) -> HaruAnswer
     ensures { λ r. ⌜ Told (CheckCall (now (file .entry)) (now (a .entry)) (now (a .exit)) (now (b .entry)) (now (b .exit)) (now (c .entry)) (now (c .exit))) r ⌝ }
 {
     of_verdict(jobs::check(file, a, b, c))

@@ -190,9 +190,10 @@ module _ (f g : List ℕ) (okf : IsReadable f) (okg : IsReadable g) where
 pub canonical-form : {f g : List ℕ} (s : Tidying f) (t : Tidying g) → CanonicalForm s t
 canonical-form {f} {g} s t =
     record {
-      equal =
-          ((λ e. tidied-equal f g okf okg (sym (file-is f s) ∙ e ∙ file-is g t)),
-          λ h. file-is f s ∙ same-tidied f g okf okg (h .0) (h .1) ∙ sym (file-is g t));
+      equal = (
+        (λ e. tidied-equal f g okf okg (sym (file-is f s) ∙ e ∙ file-is g t)),
+        λ h. file-is f s ∙ same-tidied f g okf okg (h .0) (h .1) ∙ sym (file-is g t),
+      );
       left = subst (Canonical f) (sym (file-is f s)) (canonical-of f okf);
       right = subst (Canonical g) (sym (file-is g t)) (canonical-of g okg);
     }

@@ -83,8 +83,8 @@ first-unlike (q ∷ qs) (o ∷ os) e e′ =
     go (common-split (plungeField q) (plungeField o) (body qs e) (body os e′) refl) (common-split (plungeField q) (plungeField o) (body qs e) (plungeFields os) refl) (first-unlike qs os e e′)
   where
     go : Alike (plungeField q) (plungeField o) (body qs e) (body os e′) ⊎ Apart (plungeField q) (plungeField o) (body qs e) (body os e′)
-      → Alike (plungeField q) (plungeField o) (body qs e) (plungeFields os) ⊎ Apart (plungeField q) (plungeField o) (body qs e) (plungeFields os)
-      → (qs ≡ os) ⊎ Unlike qs os e e′ → (q ∷ qs ≡ o ∷ os) ⊎ Unlike (q ∷ qs) (o ∷ os) e e′
+        → Alike (plungeField q) (plungeField o) (body qs e) (plungeFields os) ⊎ Apart (plungeField q) (plungeField o) (body qs e) (plungeFields os)
+        → (qs ≡ os) ⊎ Unlike qs os e e′ → (q ∷ qs ≡ o ∷ os) ⊎ Unlike (q ∷ qs) (o ∷ os) e e′
     go (inl a) (inr b) m = absurd (b .unlike (a .equal))
     go (inr a) (inl b) m = absurd (a .unlike (b .equal))
     go (inr a) (inr b) m = inr (record { same = a .stops ∙ sym (b .stops); short = λ h l. absurd (omega (arith, b .short, b .stops, h)) })
@@ -143,7 +143,6 @@ pub record Untidy (f : List ℕ) (at : ℕ) (like : Bool) : Type 0 where
 module _ (f : List ℕ) (ok : IsReadable f) (bytes : (i : ℕ) → getD f i 0 < 256) (at : ℕ) (like : Bool)
     (a : at ≡ 6 + common (drop 6 f) (plungeFields (tidiedPlunges f)))
     (b : like ≡ eqb (common (drop 6 f) (plungeFields (tidiedPlunges f))) (length (plungeFields (tidiedPlunges f)))) where
-
   is : f ≡ encoded (headIn f) (plungesIn f)
   is = readable-encoded f ok bytes
 
@@ -161,7 +160,7 @@ module _ (f : List ℕ) (ok : IsReadable f) (bytes : (i : ℕ) → getD f i 0 < 
       apart h true e = absurd (h (encoded-injective (headIn f) (headIn f) (plungesIn f) (tidiedPlunges f) (sym is ∙ alike-equal f (tidied f) e) .1))
 
       go : (plungesIn f ≡ tidiedPlunges f) ⊎ Unlike (plungesIn f) (tidiedPlunges f) (0 ∷ 4 ∷ four (length (plungesIn f))) (0 ∷ 4 ∷ four (length (tidiedPlunges f)))
-        → (like ≡ true × (at ≡ place (total f)) × Tidy f) ⊎ Untidy f at like
+          → (like ≡ true × (at ≡ place (total f)) × Tidy f) ⊎ Untidy f at like
       go (inl e) =
           inl (b ∙ eq-eqb _ _ all, omega (arith, a, all, plungeFields-length (tidiedPlunges f), ap length e, count), record { is = alike-same f (tidied f) (is ∙ ap (encoded (headIn f)) e) })
         where

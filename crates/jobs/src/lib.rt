@@ -22,7 +22,10 @@ fn cells_of(head: Head) -> usize
 fn too_short() -> Refusal
     ensures { λ r. ⌜ r ≡ record { number = 4; place = 0 } ⌝ }
 {
-    Refusal { number: 4, place: 0 }
+    Refusal {
+        number: 4,
+        place: 0,
+    }
 }
 
 fn shortest(a: usize, b: usize, c: usize) -> usize

@@ -1,11 +1,12 @@
 -- Laws of a listing's file: what counting it gives, the room it takes, and its three parts written one after the other.
-use mathlib.Core.Path.{_≡_, ap, _∙_}
-use mathlib.Core.List.{List, _++_}
-use Prim.Native.Nat.{ℕ, _+_, _*_, _-_, _/_, _≤_, _<_}
+use mathlib.Core.Path.{_≡_, sym, ap, ap₂, _∙_}
+use mathlib.Core.List.{List, _++_, append-assoc}
+use Prim.Native.Nat.{ℕ, suc, _+_, _*_, _-_, _/_, _≤_, _<_}
 use native.Mathlib.Omega.{arith}
 use native.Mathlib.Nat.{mul-le-mul}
 use borrow.Author.Tests.{lt-ltb, le-ltb}
-use lib.ListN.{length, drop, length-append}
+use lib.ListN.{length, getD, set, take, drop, length-append, length-drop}
+use lib.Seq.{take-append-seam, drop-at, length-take-le, getD-drop, paste, paste-suc}
 use Rattle.geometry.specs.declared.Head.{Head}
 use Rattle.geometry.specs.declared.Plunge.{Plunge}
 use Rattle.geometry.specs.Plate.{area}
@@ -16,26 +17,57 @@ use Rattle.fields.specs.Writing.{spliced}
 use Rattle.fields.proofs.Splice.{splice-start, splice-splice}
 use Rattle.fields.proofs.Encoding.{plungeFields-length}
 use Rattle.trail.specs.declared.Pass.{Pass}
-use Rattle.trail.specs.declared.Pass.the-variants.{Count, Write}
+use Rattle.trail.specs.declared.Pass.the-variants.{Write, Stage}
 use Rattle.trail.specs.declared.Trail.{Trail}
 use Rattle.trail.specs.Sent.{Sent}
 use Rattle.trail.proofs.Passes.{gather-few}
 use Rattle.walk.proofs.Plunges.{listedLevel, listing-levels, listed-few}
 use Rattle.listing.specs.declared.ListAnswer.the-variants.{Listed, Unlisted}
-use Rattle.listing.specs.Calls.{ListedInto}
+use Rattle.listing.specs.Calls.{stageLength, KeptPlunges, ListedInto}
 
--- a count asks for no room
-pub count-writes-not : _≡_ {A = Pass} Count Write → ⊥
-count-writes-not e = let z : _≡_ {A = ℕ} 0 1 = cc in omega arith
+-- a pass that stages asks for no room
+pub stage-writes-not : _≡_ {A = Pass} Stage Write → ⊥
+stage-writes-not e = let z : _≡_ {A = ℕ} 0 1 = cc in omega arith
 
 -- a listing has at most one plunge for each rung number and cell
 pub listing-few : (p : Head) (m : List ℕ) → p .width ≤ largestSide → p .height ≤ largestSide → length (listing p largestRung m) ≤ 6912000
 listing-few p m w h = omega (arith, ap length (listing-levels p largestRung m), gather-few (listedLevel p m) (area p) (listed-few p m) largestRung 0, mul-le-mul h w)
 
-module _ (file : List ℕ) (qs : List Plunge) (old new : List ℕ) (t : Trail) (s : Sent Count file 6 (plungeFields qs) old new t) where
+-- bytes that were put at a place are there
+splice-back : (old : List ℕ) (at : ℕ) (bs : List ℕ) → at + length bs ≤ length old → take (length bs) (drop at (spliced old at bs)) ≡ bs
+splice-back old at bs h =
+    ap (λ (l : List ℕ). take (length bs) (drop at l)) (append-assoc (take at old) bs (drop (at + length bs) old))
+    ∙ ap (take (length bs)) (drop-at (take at old) (bs ++ drop (at + length bs) old) at (length-take-le at old (omega arith)))
+    ∙ take-append-seam bs (drop (at + length bs) old)
+
+-- and bytes that were kept are put by a copy
+pub kept-put : (qs : List Plunge) (kept old new : List ℕ) (end : ℕ) → end ≡ 6 + 7 * length qs → end ≤ stageLength → KeptPlunges kept end qs → new ≡ paste old 6 (drop 6 kept) (end - 6) → new ≡ spliced old 6 (plungeFields qs)
+kept-put qs kept old new end e h k g =
+    let n : end - 6 ≡ length (plungeFields qs) = omega (arith, plungeFields-length qs) in
+    g ∙ ap₂ (λ (l : List ℕ) (m : ℕ). take 6 old ++ l ++ drop (6 + m) old) (k h) n
+
+-- one byte more of a copy
+pub copy-more : (old mid src : List ℕ) (n : ℕ) → 6 ≤ n → n < length old → n < length src → mid ≡ paste old 6 (drop 6 src) (n - 6) → set mid n (getD src n 0) ≡ paste old 6 (drop 6 src) (n + 1 - 6)
+copy-more old mid src n h l g e =
+    let a : 6 + (n - 6) ≡ n = omega arith in
+    let b : n + 1 - 6 ≡ suc (n - 6) = omega arith in
+    let k : getD (drop 6 src) (n - 6) 0 ≡ getD src n 0 = getD-drop 6 src (n - 6) 0 ∙ ap (λ (i : ℕ). getD src i 0) a in
+    ap (λ (o : List ℕ). set o n (getD src n 0)) e
+    ∙ ap₂ (λ (i v : ℕ). set (paste old 6 (drop 6 src) (n - 6)) i v) (sym a) (sym k)
+    ∙ paste-suc old 6 (drop 6 src) (n - 6) 0 (omega arith) (omega (arith, length-drop 6 src))
+    ∙ ap (paste old 6 (drop 6 src)) (sym b)
+
+module _ (file : List ℕ) (qs : List Plunge) (old new : List ℕ) (t : Trail) (s : Sent Stage file 6 (plungeFields qs) old new t) where
   -- where a count ends
   pub counted-end : t .at ≡ 6 + 7 * length qs
   counted-end = s .place ∙ ap (λ (n : ℕ). 6 + n) (plungeFields-length qs)
+
+  -- what it kept
+  pub counted-kept : length old ≡ stageLength → KeptPlunges new (t .at) qs
+  counted-kept l h =
+      let g : 6 + length (plungeFields qs) ≤ length old = omega (arith, counted-end, plungeFields-length qs) in
+      let k : t .at - 6 ≡ length (plungeFields qs) = omega (arith, s .place) in
+      ap (λ (n : ℕ). take n (drop 6 new)) k ∙ ap (λ (o : List ℕ). take (length (plungeFields qs)) (drop 6 o)) (s .bytes .1 g) ∙ splice-back old 6 (plungeFields qs) g
 
 pub sevenths : (n : ℕ) → (6 + 7 * n - 6) / 7 ≡ n
 sevenths n = omega arith

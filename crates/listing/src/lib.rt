@@ -2,12 +2,17 @@
 use geometry::Head;
 use refusal::Refusal;
 use trail::Pass;
-ghost use Prim.Native.Nat.{_≤_};
-ghost use lib.ListN.{length};
+ghost use mathlib.Core.Path.{_≡_};
+ghost use Prim.Native.Nat.{_+_, _-_, _*_, _≤_};
+ghost use lib.ListN.{length, drop};
+ghost use lib.Seq.{paste};
 ghost use Rattle.geometry.specs.Plate.{area};
-ghost use Rattle.refusal.specs.Refusals.{largestSide};
+ghost use Rattle.theory.specs.Listing.{listing};
+ghost use Rattle.refusal.specs.Refusals.{largestSide, largestRung};
 ghost use Rattle.climb.specs.Pairs.{Kept};
-ghost use Rattle.listing.specs.Calls.{ListedInto};
+ghost use Rattle.fields.specs.Fields.{plungeFields};
+ghost use Rattle.fields.specs.Writing.{spliced};
+ghost use Rattle.listing.specs.Calls.{stageLength, KeptPlunges, ListedInto};
 
 // How long a file is, and how many plunges it has.
 pub struct Extent {
@@ -21,7 +26,42 @@ pub enum ListAnswer {
     Unlisted(Refusal),
 }
 
-// Writes the file of a relief's listing to an output. The plunges are counted first: an output that is too short is refused untouched.
+// The bytes of a file that a first climb can keep: the plunges of a longer one are found again by a second climb.
+pub const STAGE: usize = 32768;
+
+// Copies the bytes from place 6 up to another place, to the same places of another buffer.
+fn copy_past_head(src: &[u8], dst: &mut [u8], to: usize)
+    requires { ⌜ (6 ≤ to) × (to ≤ length (now src)) × (to ≤ length (now dst)) ⌝ }
+    ensures { λ _. ⌜ now (dst .exit) ≡ paste (now (dst .entry)) 6 (drop 6 (now (src .entry))) (to - 6) ⌝ }
+{
+    let mut n = 6;
+    while n < to {
+        dst[n] = src[n];
+        n += 1;
+    }
+}
+
+// Writes the plunges of a relief's listing to an output from place 6 on: those that were kept, else by another climb.
+fn put_plunges(
+    head: Head,
+    relief: &[u8],
+    kept: &[u8; STAGE],
+    end: usize,
+    out: &mut [u8],
+    a: &mut [u8],
+    b: &mut [u8],
+)
+    requires { ⌜ (1 ≤ head .width) × (head .width ≤ largestSide) × (head .height ≤ largestSide) × (area head ≤ length (now relief)) × (area head ≤ length (now a)) × (area head ≤ length (now b)) × (length (now kept) ≡ stageLength) × (end ≡ 6 + 7 * length (listing head largestRung (now relief))) × (end ≤ length (now out)) × KeptPlunges (now kept) end (listing head largestRung (now relief)) ⌝ }
+    ensures { λ _. ⌜ (now (out .exit) ≡ spliced (now (out .entry)) 6 (plungeFields (listing head largestRung (now (relief .entry))))) × Kept head (now (a .entry)) (now (a .exit)) × Kept head (now (b .entry)) (now (b .exit)) ⌝ }
+{
+    if end <= STAGE {
+        copy_past_head(kept, out, end);
+        return;
+    }
+    walk::walk(head, Pass::Write, relief, relief, out, a, b);
+}
+
+// Writes the file of a relief's listing to an output. The plunges are counted first, and kept if they are few: an output that is too short is refused untouched.
 pub fn list_into(
     head: Head,
     relief: &[u8],
@@ -32,7 +72,8 @@ pub fn list_into(
     requires { ⌜ (1 ≤ head .width) × (head .width ≤ largestSide) × (head .height ≤ largestSide) × (area head ≤ length (now relief)) × (area head ≤ length (now a)) × (area head ≤ length (now b)) ⌝ }
     ensures { λ r. ⌜ ListedInto head (now (relief .entry)) (now (out .entry)) (now (out .exit)) r × Kept head (now (a .entry)) (now (a .exit)) × Kept head (now (b .entry)) (now (b .exit)) ⌝ }
 {
-    let counted = walk::walk(head, Pass::Count, relief, relief, out, a, b);
+    let mut kept = [0u8; STAGE];
+    let counted = walk::walk(head, Pass::Stage, relief, relief, &mut kept, a, b);
     let end = counted.at;
     let plunges = (end - 6) / 7;
     let bytes = end + 7;
@@ -43,7 +84,7 @@ pub fn list_into(
         });
     }
     fields::put_head(out, head);
-    walk::walk(head, Pass::Write, relief, relief, out, a, b);
+    put_plunges(head, relief, &kept, end, out, a, b);
     fields::put_end(out, end, plunges);
     ListAnswer::Listed(Extent { bytes, plunges })
 }

@@ -12,10 +12,11 @@ use lib.ListN.{length, getD, set}
 use Rattle.geometry.specs.declared.Head.{Head}
 use Rattle.geometry.specs.Plane.{cell}
 use Rattle.geometry.specs.Plate.{area, at}
+use Rattle.theory.specs.Erosion.{highestNear}
 use Rattle.window.specs.Windows.{windowIn, windowMax}
 use Rattle.window.proofs.Windows.{window-interior, window-max-near}
 use Rattle.buffers.proofs.Fill.{filled-none, filled-more, filled-as, filled-on}
-use Rattle.marks.specs.Marks.{markOf, markAt, tally, Marked}
+use Rattle.marks.specs.Marks.{markOf, markAt, markNear, tally, Marked}
 
 -- ---- one mark
 
@@ -29,6 +30,25 @@ mark-small a b = go (ltb b a)
 -- of a number that is 0 nothing is left
 pub mark-zero : (a b : ℕ) → a ≡ 0 → markOf a b ≡ 0
 mark-zero a b e = let g : a ≤ b = omega arith in rw (le-ltb _ _ g)
+
+-- inside the border the nine bytes about a place are the cell's window
+pub near-inside : (p : Head) (prev cur : List ℕ) (x y : ℕ) → 1 ≤ x → x + 1 < p .width → 1 ≤ y → y + 1 < p .height → markNear (p .kind) (p .width) prev cur (y * p .width + x) ≡ markAt p prev cur y x
+near-inside p prev cur x y a b c d =
+    ap (markOf (getD prev (y * p .width + x) 0)) (ap (windowMax (p .kind)) (window-interior p cur x y a b c d) ∙ window-max-near p cur (cell x y))
+
+-- marks are 0 or 1, and 0 where the first map is 0
+module _ (p : Head) (prev cur : List ℕ) where
+  pub at-small : (x y : ℕ) → markAt p prev cur y x ≤ 1
+  at-small x y = mark-small (getD prev (y * p .width + x) 0) (highestNear (p .kind) (at p cur) (cell x y))
+
+  pub at-zero : (x y : ℕ) → getD prev (y * p .width + x) 0 ≡ 0 → markAt p prev cur y x ≡ 0
+  at-zero x y e = mark-zero (getD prev (y * p .width + x) 0) (highestNear (p .kind) (at p cur) (cell x y)) e
+
+  pub near-small : (n : ℕ) → markNear (p .kind) (p .width) prev cur n ≤ 1
+  near-small n = mark-small (getD prev n 0) (windowMax (p .kind) (windowIn cur (p .width) n))
+
+  pub near-zero : (n : ℕ) → getD prev n 0 ≡ 0 → markNear (p .kind) (p .width) prev cur n ≡ 0
+  near-zero n e = mark-zero (getD prev n 0) (windowMax (p .kind) (windowIn cur (p .width) n)) e
 
 -- ---- stretches of marks
 
@@ -78,17 +98,14 @@ marked-on f from mid to old half new r s a b m n =
 -- a row's three parts: its first column, the run inside, its last column
 pub row-parts : (p : Head) (prev cur : List ℕ) (row : ℕ) (old first second new : List ℕ) (r s t : ℕ) → 3 ≤ p .width → 1 ≤ row → row + 1 < p .height
     → Marked (markAt p prev cur row) 0 1 old first r
-    → Marked (λ x. markOf (getD prev (row * p .width + x) 0) (windowMax (p .kind) (windowIn cur (p .width) (row * p .width + x)))) 1 (p .width - 1) first second s
+    → Marked (λ x. markNear (p .kind) (p .width) prev cur (row * p .width + x)) 1 (p .width - 1) first second s
     → Marked (markAt p prev cur row) (p .width - 1) (p .width) second new t
     → Marked (markAt p prev cur row) 0 (p .width) old new (r + s + t)
 row-parts p prev cur row old first second new r s t w a b f g h =
     marked-on (markAt p prev cur row) 0 (p .width - 1) (p .width) old second new (r + s) t (omega arith) (omega arith)
     (marked-on (markAt p prev cur row) 0 1 (p .width - 1) old first second r s (omega arith) (omega arith) f
-    (marked-as _ (markAt p prev cur row) 1 (p .width - 1) first second s (omega arith) g inner))
+    (marked-as _ (markAt p prev cur row) 1 (p .width - 1) first second s (omega arith) g (λ x c d. near-inside p prev cur x row c (omega arith) a b)))
     h
-  where
-    inner : (x : ℕ) → 1 ≤ x → x < p .width - 1 → markOf (getD prev (row * p .width + x) 0) (windowMax (p .kind) (windowIn cur (p .width) (row * p .width + x))) ≡ markAt p prev cur row x
-    inner x c d = ap (markOf (getD prev (row * p .width + x) 0)) (ap (windowMax (p .kind)) (window-interior p cur x row c (omega arith) a b) ∙ window-max-near p cur (cell x row))
 
 -- the places of a row, and of the rows beside it, lie within a buffer that holds the plate
 pub row-room : (p : Head) (row n : ℕ) → row < p .height → area p ≤ n → row * p .width + p .width ≤ n

@@ -1,17 +1,19 @@
--- Marks of one row: where a residue of two maps is above 0, and how many there are.
+-- Marks of one row or one run of places: where a residue of two maps is above 0, and how many there are.
 use mathlib.Core.Path.{_≡_}
 use mathlib.Core.Bool.{cond}
 use mathlib.Core.List.{List}
 use Prim.Native.Nat.{ℕ, zero, suc, _+_, _-_, _*_, _≤_}
 use lib.Dec.{ltb}
 use lib.ListN.{getD}
+use Rattle.geometry.specs.declared.Kind.{Kind}
 use Rattle.geometry.specs.declared.Head.{Head}
 use Rattle.geometry.specs.Plane.{cell}
 use Rattle.geometry.specs.Plate.{at}
+use Rattle.window.specs.Windows.{windowIn, windowMax}
 use Rattle.theory.specs.Erosion.{highestNear}
 use Rattle.buffers.specs.Fill.{Filled}
 
--- the places of an array of marks, one for each column of a row
+-- the places of an array of marks, more than a row or a run has
 abbrev pub places : ℕ
 places = 256
 
@@ -23,12 +25,16 @@ markOf a b = cond (ltb b a) 1 0
 abbrev pub markAt : Head → List ℕ → List ℕ → ℕ → ℕ → ℕ
 markAt p prev cur y x = markOf (getD prev (y * p .width + x) 0) (highestNear (p .kind) (at p cur) (cell x y))
 
+-- the mark of place n, by the nine bytes about it
+abbrev pub markNear : Kind → ℕ → List ℕ → List ℕ → ℕ → ℕ
+markNear kd w prev cur n = markOf (getD prev n 0) (windowMax kd (windowIn cur w n))
+
 -- f 0 + f 1 + … + f (n - 1)
 abbrev pub tally : (ℕ → ℕ) → ℕ → ℕ
 tally f zero = 0
 tally f (suc n) = tally f n + f n
 
--- the marks of the columns from one up to another; r is how many are 1
+-- the marks of the columns, or of the places of a run, from one up to another; r is how many are 1
 pub record Marked (f : ℕ → ℕ) (from to : ℕ) (old new : List ℕ) (r : ℕ) : Type 0 where
   pub filled : Filled f from to old new
   pub count : r + tally f from ≡ tally f to

@@ -1,16 +1,18 @@
-// Marks of one row of two erosions: where a cell has a residue above 0, and how many such cells there are.
+// Marks of one row, or of one run of places, of two erosions: where a cell has a residue above 0, and how many such cells there are.
 use geometry::Head;
 use geometry::Kind;
 ghost use mathlib.Core.Path.{_≡_};
 ghost use Prim.Native.Nat.{_+_, _*_, _≤_, _<_};
-ghost use lib.ListN.{length, getD};
+ghost use lib.ListN.{length};
 ghost use Rattle.geometry.specs.Plate.{area};
-ghost use Rattle.window.specs.Windows.{windowIn, windowMax};
 ghost use Rattle.refusal.specs.Refusals.{largestSide};
-ghost use Rattle.marks.specs.Marks.{places, markOf, markAt, Marked};
+ghost use Rattle.marks.specs.Marks.{places, markOf, markAt, markNear, Marked};
 
-// A row's marks are held in an array of this length: no plate is wider.
+// The marks of a row or a run are held in an array of this length: no plate is wider.
 pub const PLACES: usize = 256;
+
+// The places marked at once where rows need not be told apart: a multiple of 16, and few enough that their count is a byte.
+pub const RUN: usize = 240;
 
 // 1 where the second number taken off the first leaves something, else 0.
 fn mark(a: u8, b: u8) -> u8
@@ -19,8 +21,8 @@ fn mark(a: u8, b: u8) -> u8
     if b < a { 1 } else { 0 }
 }
 
-// Marks of some columns, with the nine bytes about a place for its window; the row begins at a place. Returns how many are 1.
-fn mark_run(
+// Marks of some places, counted from one on, with the nine bytes about a place for its window. Returns how many are 1.
+pub fn mark_run(
     kind: Kind,
     prev: &[u8],
     cur: &[u8],
@@ -31,7 +33,7 @@ fn mark_run(
     marks: &mut [u8; PLACES],
 ) -> u8
     requires { ⌜ (width + 1 ≤ start + from) × (from ≤ to) × (to ≤ largestSide) × (start + to + width + 1 ≤ length (now cur)) × (start + to ≤ length (now prev)) × (length (now marks) ≡ places) ⌝ }
-    ensures { λ r. ⌜ Marked (λ x. markOf (getD (now (prev .entry)) (start + x) 0) (windowMax kind (windowIn (now (cur .entry)) width (start + x)))) from to (now (marks .entry)) (now (marks .exit)) r ⌝ }
+    ensures { λ r. ⌜ Marked (λ x. markNear kind width (now (prev .entry)) (now (cur .entry)) (start + x)) from to (now (marks .entry)) (now (marks .exit)) r ⌝ }
 {
     let mut count = 0u8;
     let mut x = from;

@@ -31,12 +31,12 @@ below-none (suc r) qs s f l = rw (has-not qs r s f (omega arith)) (omega (arith,
 
 -- with one plunge before a list whose reaches start at its own: one reach more, unless the list has it
 with-first : (limit : ℕ) (q : Plunge) (qs : List Plunge) → From (q .reach .0) qs → q .reach .0 < limit
-  → reachesBelow limit (q ∷ qs) ≡ cond (has (q .reach .0) qs) 0 1 + reachesBelow limit qs
+    → reachesBelow limit (q ∷ qs) ≡ cond (has (q .reach .0) qs) 0 1 + reachesBelow limit qs
 with-first zero q qs f l = absurd (omega arith)
 with-first (suc r) q qs f l = go (λ h. with-first r q qs f h) (eqb (q .reach .0) r) refl
   where
     go : (q .reach .0 < r → reachesBelow r (q ∷ qs) ≡ cond (has (q .reach .0) qs) 0 1 + reachesBelow r qs) → (b : Bool) → eqb (q .reach .0) r ≡ b
-      → reachesBelow r (q ∷ qs) + cond (cond b true (has r qs)) 1 0 ≡ cond (has (q .reach .0) qs) 0 1 + (reachesBelow r qs + cond (has r qs) 1 0)
+        → reachesBelow r (q ∷ qs) + cond (cond b true (has r qs)) 1 0 ≡ cond (has (q .reach .0) qs) 0 1 + (reachesBelow r qs + cond (has r qs) 1 0)
     go more true e =
         let n : q .reach .0 ≡ r = eqb-true _ _ e in
         let x : reachesBelow r (q ∷ qs) ≡ 0 = below-none r (q ∷ qs) r (least n) (omega arith) in
@@ -61,7 +61,7 @@ rising-from q qs h o m = go (h .0 o m)
     go (inr a) = omega (arith, a .0)
 
 after : (limit : ℕ) (q : Plunge) (qs : List Plunge) → Rising (q ∷ qs) → ((o : Plunge) → List·Memᴰ o (q ∷ qs) → o .reach .0 < limit)
-  → 1 + changesAfter (q .reach .0) qs ≡ reachesBelow limit (q ∷ qs)
+    → 1 + changesAfter (q .reach .0) qs ≡ reachesBelow limit (q ∷ qs)
 after limit q [] h l = omega (arith, with-first limit q [] (λ o m. absurd (List·Memᴰ·not-nil m)) (l q (List·Memᴰ·head refl)), below-none limit [] limit (λ o m. absurd (List·Memᴰ·not-nil m)) (omega arith))
 after limit q (o ∷ qs) h l = go (after limit o qs (h .1) (λ n m. l n (List·Memᴰ·tail m))) (eqb (o .reach .0) (q .reach .0)) refl (with-first limit q (o ∷ qs) (rising-from q (o ∷ qs) h) (l q (List·Memᴰ·head refl)))
   where
@@ -69,8 +69,8 @@ after limit q (o ∷ qs) h l = go (after limit o qs (h .1) (λ n m. l n (List·M
     low = rising-from q (o ∷ qs) h o (List·Memᴰ·head refl)
 
     go : 1 + changesAfter (o .reach .0) qs ≡ reachesBelow limit (o ∷ qs) → (b : Bool) → eqb (o .reach .0) (q .reach .0) ≡ b
-      → reachesBelow limit (q ∷ o ∷ qs) ≡ cond (cond b true (has (q .reach .0) qs)) 0 1 + reachesBelow limit (o ∷ qs)
-      → 1 + (cond b 0 1 + changesAfter (o .reach .0) qs) ≡ reachesBelow limit (q ∷ o ∷ qs)
+        → reachesBelow limit (q ∷ o ∷ qs) ≡ cond (cond b true (has (q .reach .0) qs)) 0 1 + reachesBelow limit (o ∷ qs)
+        → 1 + (cond b 0 1 + changesAfter (o .reach .0) qs) ≡ reachesBelow limit (q ∷ o ∷ qs)
     go more true e w = omega (arith, more, w)
     go more false e w =
         let z : has (q .reach .0) qs ≡ false = has-not qs (q .reach .0) (o .reach .0) (rising-from o qs (h .1)) (omega (arith, low, eqb-false (o .reach .0) (q .reach .0) e)) in

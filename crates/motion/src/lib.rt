@@ -144,10 +144,16 @@ fn motions_at(file: &[u8], plunges: usize, i: usize, scale: Scale) -> MotionAnsw
     ensures { λ r. ⌜ r ≡ motionsIn (now (file .entry)) i scale ⌝ }
 {
     if !in_range(scale) {
-        return MotionAnswer::NoMoves(Refusal { number: 13, place: 0 });
+        return MotionAnswer::NoMoves(Refusal {
+            number: 13,
+            place: 0,
+        });
     }
     if plunges <= i {
-        return MotionAnswer::NoMoves(Refusal { number: 14, place: 0 });
+        return MotionAnswer::NoMoves(Refusal {
+            number: 14,
+            place: 0,
+        });
     }
     let changed = is_changed(file, i);
     let q = plunge_number(file, i);

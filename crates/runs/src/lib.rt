@@ -18,7 +18,7 @@ fn run_cell(record: Record, relief: &[u8]) {
     );
     match answer {
         CellAnswer::Cleared(clearance) => records::print_value(clearance.0 as u64),
-        CellAnswer::NotCleared(refusal) => records::print_refusal(refusal),
+        CellAnswer::NotCleared(refusal) => run_io::print_refusal(refusal),
     }
 }
 
@@ -26,7 +26,7 @@ fn run_volume(record: Record, relief: &[u8]) {
     let answer = relief::volume(relief, record.width, record.height);
     match answer {
         VolumeAnswer::Volume(volume) => records::print_value(volume as u64),
-        VolumeAnswer::NoVolume(refusal) => records::print_refusal(refusal),
+        VolumeAnswer::NoVolume(refusal) => run_io::print_refusal(refusal),
     }
 }
 
@@ -46,10 +46,10 @@ fn level_call(record: Record, relief: &[u8], out: &mut [u8]) -> Verdict {
 fn run_level(record: Record, relief: &[u8], out: &mut [u8]) {
     let verdict = level_call(record, relief, out);
     match verdict {
-        Verdict::Accepted => records::print_text(b"ok\n"),
-        Verdict::Refused(refusal) => records::print_refusal(refusal),
+        Verdict::Accepted => run_io::print_text(b"ok\n"),
+        Verdict::Refused(refusal) => run_io::print_refusal(refusal),
     }
-    records::print_map(out);
+    run_io::print_bytes(out);
 }
 
 fn score_of(op: u8) -> Score {
@@ -79,12 +79,12 @@ fn run_climb(record: Record, relief: &[u8], out: &mut [u8], a: &mut [u8], b: &mu
     let verdict = climb_call(record, relief, out, a, b);
     match verdict {
         Verdict::Accepted => {
-            records::print_text(b"ok\n");
-            records::print_map(out);
+            run_io::print_text(b"ok\n");
+            run_io::print_bytes(out);
         }
         Verdict::Refused(refusal) => {
-            records::print_refusal(refusal);
-            records::print_map(out);
+            run_io::print_refusal(refusal);
+            run_io::print_bytes(out);
             records::print_work(a, b);
         }
     }
@@ -106,9 +106,9 @@ fn run_call(record: Record, relief: &[u8], out: &mut [u8], a: &mut [u8], b: &mut
 // The call on buffers that have the record's lengths.
 fn run_on(record: Record, s: &[u8], relief: &mut [u8], out: &mut [u8], a: &mut [u8], b: &mut [u8]) {
     records::make_relief(record, s, relief);
-    records::fill(out, records::UNTOUCHED);
-    records::fill(a, records::UNTOUCHED);
-    records::fill(b, records::UNTOUCHED);
+    run_io::fill(out, run_io::UNTOUCHED);
+    run_io::fill(a, run_io::UNTOUCHED);
+    run_io::fill(b, run_io::UNTOUCHED);
     run_call(record, relief, out, a, b);
 }
 

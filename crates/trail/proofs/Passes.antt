@@ -17,9 +17,9 @@ use Rattle.fields.specs.Writing.{spliced}
 use Rattle.fields.proofs.Splice.{splice-nil, splice-length, splice-splice}
 use Rattle.fields.proofs.Encoding.{plungeFields-append, plungeFields-length}
 use Rattle.trail.specs.declared.Pass.{Pass}
-use Rattle.trail.specs.declared.Pass.the-variants.{Count, Write, Compare}
+use Rattle.trail.specs.declared.Pass.the-variants.{Count, Write, Compare, Stage}
 use Rattle.trail.specs.declared.Trail.{Trail}
-use Rattle.trail.specs.Sent.{common, reached, passed, Sent, Room}
+use Rattle.trail.specs.Sent.{common, reached, Staged, Passed, Sent, Room}
 use Rattle.trail.proofs.Common.{common-le, common-on, common-off}
 
 -- ---- bytes
@@ -28,6 +28,7 @@ pub sent-none : (pass : Pass) (file : List ℕ) (at : ℕ) (old : List ℕ) → 
 sent-none Count file at old = record { place = sym (add-zero at); like = refl; bytes = refl }
 sent-none Write file at old = record { place = sym (add-zero at); like = refl; bytes = sym (splice-nil old at) }
 sent-none Compare file at old = record { place = sym (add-zero at); like = refl; bytes = refl }
+sent-none Stage file at old = record { place = sym (add-zero at); like = refl; bytes = (refl, λ h. sym (splice-nil old at)) }
 
 eqb-same : (n : ℕ) → eqb n n ≡ true
 eqb-same n = eq-eqb n n refl
@@ -47,6 +48,9 @@ module _ (pass : Pass) (file : List ℕ) (at : ℕ) (bs old new : List ℕ) wher
   pub sent-written : pass ≡ Write → new ≡ spliced old at bs → Sent pass file at bs old new (record { at = at + length bs; like = true })
   sent-written e g = subst (λ o. Sent o file at bs old new (record { at = at + length bs; like = true })) (sym e) (record { place = refl; like = sym (eqb-same (length bs)); bytes = g })
 
+  pub sent-staged : pass ≡ Stage → Staged old at bs new → Sent pass file at bs old new (record { at = at + length bs; like = true })
+  sent-staged e g = subst (λ o. Sent o file at bs old new (record { at = at + length bs; like = true })) (sym e) (record { place = refl; like = sym (eqb-same (length bs)); bytes = g })
+
   pub sent-compared : pass ≡ Compare → (r : Trail) → r .at ≡ at + common (drop at file) bs → r .like ≡ eqb (common (drop at file) bs) (length bs) → Sent pass file at bs old old r
   sent-compared e r g h = subst (λ o. Sent o file at bs old old r) (sym e) (record { place = g; like = h; bytes = refl })
 
@@ -57,12 +61,13 @@ module _ (pass : Pass) (file : List ℕ) (at : ℕ) (bs old new : List ℕ) (r :
 
   -- the output keeps its length
   pub sent-same : Room pass (at + length bs) old → length new ≡ length old
-  sent-same h = ap length (s .bytes) ∙ go pass h
+  sent-same h = go pass h (s .bytes)
     where
-      go : (o : Pass) → Room o (at + length bs) old → length (passed o old at bs) ≡ length old
-      go Count g = refl
-      go Write g = splice-length old at bs (g refl)
-      go Compare g = refl
+      go : (o : Pass) → Room o (at + length bs) old → Passed o old at bs new → length new ≡ length old
+      go Count g b = ap length b
+      go Write g b = ap length b ∙ splice-length old at bs (g refl)
+      go Compare g b = ap length b
+      go Stage g b = b .0
 
 -- bytes, and then more of them
 pub sent-more : (pass : Pass) (file : List ℕ) (at : ℕ) (bs cs old mid new : List ℕ) (r s : Trail) → Room pass (at + length bs) old
@@ -79,6 +84,18 @@ sent-more Write file at bs cs old mid new r s h a e b =
       like = b .like ∙ eqb-same (length cs) ∙ sym (eqb-same (length (bs ++ cs)));
       bytes = b .bytes ∙ ap (λ (n : ℕ). spliced mid n cs) (a .place) ∙ ap (λ l. spliced l (at + length bs) cs) (a .bytes) ∙ splice-splice old at bs cs (h refl);
     }
+sent-more Stage file at bs cs old mid new r s h a e b =
+    record {
+      place = omega (arith, b .place, a .place, length-append bs cs);
+      like = b .like ∙ eqb-same (length cs) ∙ sym (eqb-same (length (bs ++ cs)));
+      bytes = (b .bytes .0 ∙ a .bytes .0, both);
+    }
+  where
+    both : at + length (bs ++ cs) ≤ length old → new ≡ spliced old at (bs ++ cs)
+    both l =
+        let f : at + length bs ≤ length old = omega (arith, length-append bs cs) in
+        b .bytes .1 (omega (arith, a .place, a .bytes .0, length-append bs cs))
+        ∙ ap (λ (n : ℕ). spliced mid n cs) (a .place) ∙ ap (λ (o : List ℕ). spliced o (at + length bs) cs) (a .bytes .1 f) ∙ splice-splice old at bs cs f
 sent-more Compare file at bs cs old mid new r s h a e b =
     record {
       place = omega (arith, b .place, all, whole);
@@ -98,6 +115,7 @@ sent-more Compare file at bs cs old mid new r s h a e b =
 pub sent-stops : (pass : Pass) (file : List ℕ) (at : ℕ) (bs cs old new : List ℕ) (r : Trail) → Sent pass file at bs old new r → r .like ≡ false → Sent pass file at (bs ++ cs) old new r
 sent-stops Count file at bs cs old new r a e = absurd (eqb-false (length bs) (length bs) (sym (a .like) ∙ e) refl)
 sent-stops Write file at bs cs old new r a e = absurd (eqb-false (length bs) (length bs) (sym (a .like) ∙ e) refl)
+sent-stops Stage file at bs cs old new r a e = absurd (eqb-false (length bs) (length bs) (sym (a .like) ∙ e) refl)
 sent-stops Compare file at bs cs old new r a e =
     record {
       place = a .place ∙ ap (λ (n : ℕ). at + n) (sym same);

@@ -1,20 +1,21 @@
-// A pass over the plunges of a file, field by field: they are counted, written to an output, or compared with a file.
+// A pass over the plunges of a file, field by field: they are counted, written to an output, compared with a file, or staged.
 use geometry::Plunge;
 ghost use mathlib.Core.Path.{_≡_};
 ghost use Prim.Native.Nat.{_+_, _<_};
 ghost use lib.Dec.{eqb};
 ghost use lib.ListN.{length, drop};
 ghost use Rattle.fields.specs.Fields.{plungeField};
-ghost use Rattle.trail.specs.Sent.{common, Sent, Room, Fits};
+ghost use Rattle.trail.specs.Sent.{common, Staged, Sent, Room, Fits};
 
-// What is done with the bytes of each field.
+// What is done with the bytes of each field. Staged fields are all counted, and written as far as an output has room.
 pub enum Pass {
     Count,
     Write,
     Compare,
+    Stage,
 }
 
-// The place that a pass came to, and whether it went over all that it was sent: if not, the file is unlike there, or ends there.
+// The place that a pass came to, and whether it went over all that it was sent: if not, a byte of the file is unlike there.
 pub struct Trail {
     pub at: usize,
     pub like: bool,
@@ -53,7 +54,17 @@ fn compare(file: &[u8], at: usize, q: Plunge) -> Trail
     }
 }
 
-// Sends one plunge at a place: its field is counted, written or compared there. Bytes of the output change only where it is written.
+// Writes a plunge's field at a place if the output has room for it.
+fn stage(out: &mut [u8], at: usize, q: Plunge)
+    requires { ⌜ Fits (at + 7) × (q .column < 256) × (q .row < 256) ⌝ }
+    ensures { λ _. ⌜ Staged (now (out .entry)) at (plungeField q) (now (out .exit)) ⌝ }
+{
+    if at + 7 <= out.len() {
+        fields::put_plunge(out, at, q);
+    }
+}
+
+// Sends one plunge at a place: its field is counted, written, compared or staged there. Bytes of the output change only where it is written.
 pub fn send(pass: Pass, file: &[u8], out: &mut [u8], at: usize, q: Plunge) -> Trail
     requires { ⌜ Fits (at + 7) × Room pass (at + 7) (now out) × (q .column < 256) × (q .row < 256) ⌝ }
     ensures { λ r. ⌜ Sent pass (now (file .entry)) at (plungeField q) (now (out .entry)) (now (out .exit)) r ⌝ }
@@ -71,5 +82,12 @@ pub fn send(pass: Pass, file: &[u8], out: &mut [u8], at: usize, q: Plunge) -> Tr
             }
         }
         Pass::Compare => compare(file, at, q),
+        Pass::Stage => {
+            stage(out, at, q);
+            Trail {
+                at: at + 7,
+                like: true,
+            }
+        }
     }
 }

@@ -51,15 +51,16 @@ module _ (pass : Pass) (file : List ℕ) (p : Head) (m : List ℕ) (k : ℕ) (ol
     level = pair-level p m k a″ b″ (up .pair)
 
     -- what sending the next level asks
-    pub walking-asks : p .width ≤ largestSide → p .height ≤ largestSide
-        → (1 ≤ k + 1) × (k + 1 ≤ largestRung) × (p .width ≤ largestSide) × (p .height ≤ largestSide) × (area p ≤ length a″) × (area p ≤ length b″)
+    pub walking-asks : 1 ≤ p .width → p .width ≤ largestSide → p .height ≤ largestSide
+        → (1 ≤ k + 1) × (k + 1 ≤ largestRung) × (1 ≤ p .width) × (p .width ≤ largestSide) × (p .height ≤ largestSide) × (area p ≤ length a″) × (area p ≤ length b″)
         × ((k + 1) % 2 ≡ 0 → Margin p (k + 1 - 1) b″) × ((k + 1) % 2 ≡ 1 → Margin p (k + 1 - 1) a″)
         × Fits (place + 7 * area p) × Room pass (place + 7 * length (pairPlunges p (k + 1) a″ b″)) out
-    walking-asks c d =
+    walking-asks o c d =
         let l = pair-long p m (k + 1) a″ b″ (up .pair) in
         let g = pair-asks p m (k + 1) a″ b″ (up .pair) in (
           omega arith,
           omega arith,
+          o,
           c,
           d,
           l .0,

@@ -1,2 +1,3 @@
 pub mod Plunges
 pub mod Climbs
+pub mod Runs

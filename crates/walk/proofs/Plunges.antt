@@ -1,4 +1,4 @@
--- What the marks of a row, the rows of a level and the levels of a climb send is the listing; rows within a margin of zeros send nothing.
+-- What the marks of a row, the rows of a level and the levels of a climb send is the listing.
 use mathlib.Core.Path.{_≡_, refl, sym, ap, ap₂, _∙_, subst}
 use mathlib.Core.Logic.{_⊎_, inl, inr}
 use mathlib.Core.Bool.{Bool, true, false, cond}
@@ -8,6 +8,7 @@ use native.Mathlib.Omega.{arith}
 use native.Mathlib.Nat.{mul-one, mul-le-mul}
 use native.Mathlib.Numerals.{add-one}
 use borrow.Author.Tests.{lt-ltb, le-ltb, ltb-true, ltb-false, eq-eqb, ne-eqb, le-leb}
+use lib.Arith.{digits-div, digits-mod}
 use lib.Dec.{eqb, ltb}
 use lib.ListN.{length, getD, length-append}
 use Rattle.geometry.specs.declared.Head.{Head}
@@ -31,13 +32,13 @@ use Rattle.climb.proofs.Scores.{turn-residue}
 use Rattle.fields.specs.Fields.{plungeField, plungeFields}
 use Rattle.fields.proofs.Encoding.{plungeFields-length}
 use Rattle.marks.specs.Marks.{markOf, markAt, tally, Marked}
-use Rattle.marks.proofs.Marking.{mark-small, mark-zero}
+use Rattle.marks.proofs.Marking.{at-small, at-zero}
 use Rattle.trail.specs.declared.Pass.{Pass}
-use Rattle.trail.specs.declared.Pass.the-variants.{Count}
+use Rattle.trail.specs.declared.Pass.the-variants.{Count, Write, Compare, Stage}
 use Rattle.trail.specs.declared.Trail.{Trail}
 use Rattle.trail.specs.Sent.{Sent, Room, Fits}
-use Rattle.trail.proofs.Passes.{sent-none, sent-counted, gather-turn, gather-few, gather-none, Sending, sending-fits}
-use Rattle.walk.specs.Rows.{onMark, markedAt, marksTo, rowPlunges, levelPlunges, pairPlunges}
+use Rattle.trail.proofs.Passes.{sent-none, sent-counted, sent-staged, gather-turn, gather-few, gather-none, Sending, sending-fits}
+use Rattle.walk.specs.Rows.{counting, plungeAt, placed, onMark, markedPlace, markedAt, marksTo, rowPlunges, levelPlunges, pairPlunges}
 
 -- ---- one row
 
@@ -53,39 +54,49 @@ mark-length : (mark : ℕ) (q : Plunge) → mark ≤ 1 → length (onMark mark q
 mark-length zero q h = refl
 mark-length (suc n) q h = let e : suc n ≡ 1 = omega arith in rw e
 
+-- how many plunges some marks send
+tally-length : (f : ℕ → ℕ) (q : ℕ → Plunge) → ((i : ℕ) → f i ≤ 1) → (n : ℕ) → length (gather n 0 (λ i. onMark (f i) (q i))) ≡ tally f n
+tally-length f q s zero = refl
+tally-length f q s (suc n) =
+    ap (λ (k : ℕ). length (gather k 0 (λ i. onMark (f i) (q i)))) (sym (add-one n)) ∙ ap length (gather-turn (λ i. onMark (f i) (q i)) n)
+    ∙ omega (arith, length-append (gather n 0 (λ i. onMark (f i) (q i))) (onMark (f n) (q n)), tally-length f q s n, mark-length (f n) (q n) (s n))
+
+-- an array of marks sends what the marks say, and as many as were counted
+module _ (w : ℕ) (prev : List ℕ) (r start n : ℕ) (f : ℕ → ℕ) (old marks : List ℕ) (count : ℕ) (m : Marked f 0 n old marks count) where
+  pub marks-sent : marksTo n w prev r start marks ≡ gather n 0 (λ i. markedPlace w prev r (start + i) (f i))
+  marks-sent = gather-same n 0 _ _ (λ i a b. ap (markedPlace w prev r (start + i)) (m .filled .inside i a (omega arith)))
+
+  pub marks-count : ((i : ℕ) → f i ≤ 1) → count ≡ length (marksTo n w prev r start marks)
+  marks-count s = omega (arith, m .count, tally-length f (λ i. placed w r (start + i) (getD prev (start + i) 0)) s n, ap length marks-sent)
+
+-- place y * w + x is column x of row y
+pub place-cell : (w : ℕ) (prev : List ℕ) (r y x mark : ℕ) → x < w → markedPlace w prev r (y * w + x) mark ≡ markedAt w prev r y x mark
+place-cell w prev r y x mark h =
+    ap₂ (λ (c j : ℕ). onMark mark (plungeAt r c j (getD prev (y * w + x) 0))) (digits-mod y h) (digits-div y h)
+
 module _ (p : Head) (prev cur : List ℕ) (r y : ℕ) where
   abbrev each : ℕ → List Plunge
   each x = markedAt (p .width) prev r y x (markAt p prev cur y x)
 
   -- an array with the row's marks sends the row's plunges
-  pub row-marked : (old marks : List ℕ) (n : ℕ) → Marked (markAt p prev cur y) 0 (p .width) old marks n → marksTo (p .width) (p .width) prev r y marks ≡ rowPlunges p prev cur r y
-  row-marked old marks n m = gather-same (p .width) 0 _ each (λ x a b. ap (markedAt (p .width) prev r y x) (m .filled .inside x a (omega arith)))
+  pub row-marked : (old marks : List ℕ) (n : ℕ) → Marked (markAt p prev cur y) 0 (p .width) old marks n → marksTo (p .width) (p .width) prev r (y * p .width) marks ≡ rowPlunges p prev cur r y
+  row-marked old marks n m =
+      marks-sent (p .width) prev r (y * p .width) (p .width) (markAt p prev cur y) old marks n m
+      ∙ gather-same (p .width) 0 _ each (λ x a b. place-cell (p .width) prev r y x (markAt p prev cur y x) (omega arith))
 
-  -- how many there are
-  each-length : (x : ℕ) → length (each x) ≡ markAt p prev cur y x
-  each-length x = mark-length (markAt p prev cur y x) _ (mark-small (getD prev (y * p .width + x) 0) (highestNear (p .kind) (at p cur) (cell x y)))
-
-  tally-length : (n : ℕ) → length (gather n 0 each) ≡ tally (markAt p prev cur y) n
-  tally-length zero = refl
-  tally-length (suc n) =
-      ap (λ (k : ℕ). length (gather k 0 each)) (sym (add-one n)) ∙ ap length (gather-turn each n) ∙ omega (arith, length-append (gather n 0 each) (each n), tally-length n, each-length n)
-
-  pub row-count : (old marks : List ℕ) (n : ℕ) → Marked (markAt p prev cur y) 0 (p .width) old marks n → n ≡ length (rowPlunges p prev cur r y)
-  row-count old marks n m = omega (arith, m .count, tally-length (p .width))
+  pub row-count : (old marks : List ℕ) (n : ℕ) → Marked (markAt p prev cur y) 0 (p .width) old marks n → n ≡ length (marksTo (p .width) (p .width) prev r (y * p .width) marks)
+  row-count old marks n m =
+      marks-count (p .width) prev r (y * p .width) (p .width) (markAt p prev cur y) old marks n m (λ x. at-small p prev cur x y)
 
   pub row-few : length (rowPlunges p prev cur r y) ≤ p .width
   row-few = omega (arith, gather-few each 1 (λ j. mark-few (markAt p prev cur y j) _) (p .width) 0, mul-one (p .width))
 
-  -- a row within the margin sends nothing
-  pub row-none : (k : ℕ) → Margin p k prev → y < p .height → (y < k) ⊎ (p .height ≤ y + k) → rowPlunges p prev cur r y ≡ []
-  row-none k m h o = gather-none each (p .width) 0 (λ x a b. none x (omega arith))
+  -- a row of zeros sends nothing
+  pub row-none : ((x : ℕ) → x < p .width → getD prev (y * p .width + x) 0 ≡ 0) → rowPlunges p prev cur r y ≡ []
+  row-none z = gather-none each (p .width) 0 (λ x a b. none x (omega arith))
     where
-      zeros : (x : ℕ) → x < p .width → (y < k) ⊎ (p .height ≤ y + k) → getD prev (y * p .width + x) 0 ≡ 0
-      zeros x l (inl g) = m .north x y l h g
-      zeros x l (inr g) = m .south x y l h g
-
       none : (x : ℕ) → x < p .width → each x ≡ []
-      none x l = ap (markedAt (p .width) prev r y x) (mark-zero (getD prev (y * p .width + x) 0) (highestNear (p .kind) (at p cur) (cell x y)) (zeros x l o))
+      none x l = ap (markedAt (p .width) prev r y x) (at-zero p prev cur x y (z x l))
 
 -- ---- passes over a row
 
@@ -98,10 +109,20 @@ pub sent-empty : (pass : Pass) (file : List ℕ) (at : ℕ) (qs : List Plunge) (
 sent-empty pass file at qs old e = subst (λ (l : List Plunge). Sent pass file at (plungeFields l) old old (record { at = at; like = true })) (sym (empty qs e)) (sent-none pass file at old)
 
 -- a count of plunges
-pub sent-number : (pass : Pass) (file : List ℕ) (at n : ℕ) (qs : List Plunge) (old : List ℕ) → pass ≡ Count → n ≡ length qs → Sent pass file at (plungeFields qs) old old (record { at = at + 7 * n; like = true })
+sent-number : (pass : Pass) (file : List ℕ) (at n : ℕ) (qs : List Plunge) (old : List ℕ) → pass ≡ Count → n ≡ length qs → Sent pass file at (plungeFields qs) old old (record { at = at + 7 * n; like = true })
 sent-number pass file at n qs old e g =
     let k : length (plungeFields qs) ≡ 7 * n = omega (arith, plungeFields-length qs) in
     subst (λ (j : ℕ). Sent pass file at (plungeFields qs) old old (record { at = at + j; like = true })) k (sent-counted pass file at (plungeFields qs) old old e)
+
+-- plunges that are counted and no more
+pub sent-counting : (pass : Pass) (file : List ℕ) (at n : ℕ) (qs : List Plunge) (old : List ℕ) → counting pass (at + 7 * n) (length old) ≡ true → n ≡ length qs → Sent pass file at (plungeFields qs) old old (record { at = at + 7 * n; like = true })
+sent-counting Count file at n qs old e g = sent-number Count file at n qs old refl g
+sent-counting Write file at n qs old e g = let z : _≡_ {A = ℕ} 0 1 = cc in absurd (omega arith)
+sent-counting Compare file at n qs old e g = let z : _≡_ {A = ℕ} 0 1 = cc in absurd (omega arith)
+sent-counting Stage file at n qs old e g =
+    let k : length (plungeFields qs) ≡ 7 * n = omega (arith, plungeFields-length qs) in
+    let l : length old < at + 7 * n = ltb-true (length old) (at + 7 * n) e in
+    subst (λ (j : ℕ). Sent Stage file at (plungeFields qs) old old (record { at = at + j; like = true })) k (sent-staged Stage file at (plungeFields qs) old old refl (refl, λ h. absurd (omega (arith, l, k))))
 
 -- a pass over plunges that are known by another name
 pub sent-as : (pass : Pass) (file : List ℕ) (at : ℕ) (qs os : List Plunge) (old new : List ℕ) (t : Trail) → qs ≡ os → Sent pass file at (plungeFields qs) old new t → Sent pass file at (plungeFields os) old new t
@@ -128,11 +149,6 @@ module _ (pass : Pass) (file : List ℕ) (at mark : ℕ) (q : Plunge) (old : Lis
   marked-sent d new t s = sent-as pass file at (q ∷ []) (onMark mark q) old new t (sym (on-one d)) s
 
 -- ---- one level
-
-module _ (p : Head) (prev cur : List ℕ) (r : ℕ) where
-  -- where the margin is all there is
-  pub level-none : (k : ℕ) → Margin p k prev → p .height ≤ k → length (levelPlunges p prev cur r) ≡ 0
-  level-none k m h = ap length (gather-none (rowPlunges p prev cur r) (p .height) 0 (λ y a b. row-none p prev cur r y k m (omega arith) (inl (omega arith))))
 
 -- the plunges of the listing that have one reach
 abbrev pub listedLevel : Head → List ℕ → ℕ → List Plunge

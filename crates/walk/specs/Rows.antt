@@ -1,25 +1,50 @@
--- The plunges of a row and of a level, read off two maps: one with the rung k−1 depths, one with the rung k depths.
-use mathlib.Core.Bool.{cond}
+-- The plunges of a row, of a run of places and of a level, read off two maps: one with the rung k−1 depths, one with the rung k depths.
+use mathlib.Core.Bool.{Bool, true, false, cond}
 use mathlib.Core.List.{List, [], _∷_}
-use Prim.Native.Nat.{ℕ, _+_, _-_, _*_, _%_}
-use lib.Dec.{eqb}
+use Prim.Native.Nat.{ℕ, _+_, _-_, _*_, _%_, _/_}
+use lib.Dec.{eqb, ltb}
 use lib.ListN.{getD}
 use Rattle.geometry.specs.declared.Head.{Head}
 use Rattle.geometry.specs.declared.Plunge.{Plunge}
 use Rattle.geometry.specs.Lists.{gather}
-use Rattle.marks.specs.Marks.{markAt}
+use Rattle.marks.specs.Marks.{markAt, markNear}
+use Rattle.trail.specs.declared.Pass.{Pass}
+use Rattle.trail.specs.declared.Pass.the-variants.{Count, Write, Compare, Stage}
+
+-- whether a pass only counts fields that end at a place, with an output of some length
+abbrev pub counting : Pass → ℕ → ℕ → Bool
+counting Count end room = true
+counting Write end room = false
+counting Compare end room = false
+counting Stage end room = ltb room end
 
 -- a plunge where a mark stands, else none
 abbrev pub onMark : ℕ → Plunge → List Plunge
 onMark mark q = cond (eqb mark 0) [] (q ∷ [])
 
+-- the plunge of reach r and depth d at column x of row y
+abbrev pub plungeAt : ℕ → ℕ → ℕ → ℕ → Plunge
+plungeAt r x y d = record { column = x; row = y; reach = record { 0 = r }; depth = d }
+
 -- the plunge of reach r at a column x and a row y, where it is marked
 abbrev pub markedAt : ℕ → List ℕ → ℕ → ℕ → ℕ → ℕ → List Plunge
-markedAt w prev r y x mark = onMark mark (record { column = x; row = y; reach = record { 0 = r }; depth = getD prev (y * w + x) 0 })
+markedAt w prev r y x mark = onMark mark (plungeAt r x y (getD prev (y * w + x) 0))
 
--- the plunges of reach r in the first n columns of a row, by an array of marks
+-- the plunge of reach r and depth d at place n of a map with rows of width w: column n % w of row n / w
+abbrev pub placed : ℕ → ℕ → ℕ → ℕ → Plunge
+placed w r n d = plungeAt r (n % w) (n / w) d
+
+-- the same, where it is marked, with the map's own depth
+abbrev pub markedPlace : ℕ → List ℕ → ℕ → ℕ → ℕ → List Plunge
+markedPlace w prev r n mark = onMark mark (placed w r n (getD prev n 0))
+
+-- the plunges of reach r at n places from one on, by an array of marks
 abbrev pub marksTo : ℕ → ℕ → List ℕ → ℕ → ℕ → List ℕ → List Plunge
-marksTo n w prev r y marks = gather n 0 (λ x. markedAt w prev r y x (getD marks x 0))
+marksTo n w prev r start marks = gather n 0 (λ i. markedPlace w prev r (start + i) (getD marks i 0))
+
+-- the plunge of reach r at place n, by the nine bytes about it
+abbrev pub placePlunge : Head → List ℕ → List ℕ → ℕ → ℕ → List Plunge
+placePlunge p prev cur r n = markedPlace (p .width) prev r n (markNear (p .kind) (p .width) prev cur n)
 
 -- the plunges of reach r in a row: "a cell with residue k above 0 gives the plunge of reach k−1 whose depth is the cell's rung k−1 depth"
 abbrev pub rowPlunges : Head → List ℕ → List ℕ → ℕ → ℕ → List Plunge

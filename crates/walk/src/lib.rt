@@ -1,4 +1,4 @@
-// The listing of a relief, sent plunge by plunge in its order: counted, written to an output, or compared with a file.
+// The listing of a relief, sent plunge by plunge in its order: counted, written to an output, compared with a file, or staged.
 use geometry::Clearance;
 use geometry::Head;
 use geometry::MaybeReach;
@@ -7,8 +7,9 @@ use geometry::Reach;
 use trail::Pass;
 use trail::Trail;
 ghost use mathlib.Core.Path.{_≡_};
-ghost use Prim.Native.Nat.{_+_, _-_, _*_, _%_, _≤_, _<_};
+ghost use Prim.Native.Nat.{_+_, _-_, _*_, _%_, _≤_, _<_, min};
 ghost use lib.ListN.{length};
+ghost use Rattle.geometry.specs.Lists.{gather};
 ghost use Rattle.geometry.specs.Plate.{area};
 ghost use Rattle.theory.specs.Listing.{listing};
 ghost use Rattle.refusal.specs.Refusals.{largestSide, largestRung};
@@ -17,51 +18,63 @@ ghost use Rattle.climb.specs.Pairs.{Kept};
 ghost use Rattle.fields.specs.Fields.{plungeFields};
 ghost use Rattle.marks.specs.Marks.{places};
 ghost use Rattle.trail.specs.Sent.{Sent, Room, Fits};
-ghost use Rattle.walk.specs.Rows.{onMark, marksTo, rowPlunges, levelPlunges, pairPlunges};
+ghost use Rattle.walk.specs.Rows.{counting, placed, onMark, marksTo, rowPlunges, placePlunge, levelPlunges, pairPlunges};
 
-// Sends a plunge if it is marked.
-fn send_marked(pass: Pass, mark: u8, file: &[u8], out: &mut [u8], at: usize, q: Plunge) -> Trail
-    requires { ⌜ Fits (at + 7) × Room pass (at + 7 * length (onMark mark q)) (now out) × (q .column < 256) × (q .row < 256) ⌝ }
-    ensures { λ r. ⌜ Sent pass (now (file .entry)) at (plungeFields (onMark mark q)) (now (out .entry)) (now (out .exit)) r ⌝ }
+// Sends the plunge of a place if it is marked: place n is column n % width of row n / width.
+fn send_marked(
+    pass: Pass,
+    mark: u8,
+    reach: Reach,
+    width: usize,
+    n: usize,
+    depth: u8,
+    file: &[u8],
+    out: &mut [u8],
+    at: usize,
+) -> Trail
+    requires { ⌜ (1 ≤ width) × (width ≤ largestSide) × (n < largestSide * width) × Fits (at + 7) × Room pass (at + 7 * length (onMark mark (placed width (reach .0) n depth))) (now out) ⌝ }
+    ensures { λ r. ⌜ Sent pass (now (file .entry)) at (plungeFields (onMark mark (placed width (reach .0) n depth))) (now (out .entry)) (now (out .exit)) r ⌝ }
 {
     if mark == 0 {
         return Trail { at, like: true };
     }
+    let x = (n % width) as u16;
+    let y = (n / width) as u16;
+    let q = Plunge {
+        column: x,
+        row: y,
+        reach,
+        depth,
+    };
     trail::send(pass, file, out, at, q)
 }
 
-// Sends the marked cells of a row, up to the first that is unlike.
+// Sends the marked ones of some places, up to the first that is unlike.
 fn send_marks(
     pass: Pass,
     reach: Reach,
-    y: u16,
-    width: u16,
+    width: usize,
+    start: usize,
+    number: usize,
     prev: &[u8],
     flags: &[u8; marks::PLACES],
     file: &[u8],
     out: &mut [u8],
     at: usize,
 ) -> Trail
-    requires { ⌜ (width ≤ largestSide) × (y < largestSide) × (y * width + width ≤ length (now prev)) × (length (now flags) ≡ places) × Fits (at + 7 * width) × Room pass (at + 7 * length (marksTo width width (now prev) (reach .0) y (now flags))) (now out) ⌝ }
-    ensures { λ r. ⌜ Sent pass (now (file .entry)) at (plungeFields (marksTo width width (now (prev .entry)) (reach .0) y (now (flags .entry)))) (now (out .entry)) (now (out .exit)) r ⌝ }
+    requires { ⌜ (1 ≤ width) × (width ≤ largestSide) × (number ≤ largestSide) × (start + number ≤ largestSide * width) × (start + number ≤ length (now prev)) × (length (now flags) ≡ places) × Fits (at + 7 * number) × Room pass (at + 7 * length (marksTo number width (now prev) (reach .0) start (now flags))) (now out) ⌝ }
+    ensures { λ r. ⌜ Sent pass (now (file .entry)) at (plungeFields (marksTo number width (now (prev .entry)) (reach .0) start (now (flags .entry)))) (now (out .entry)) (now (out .exit)) r ⌝ }
 {
-    let start = (y as usize) * (width as usize);
     let mut place = at;
-    let mut x = 0;
-    while x < width {
-        let i = x as usize;
-        let q = Plunge {
-            column: x,
-            row: y,
-            reach,
-            depth: prev[start + i],
-        };
-        let next = send_marked(pass, flags[i], file, out, place, q);
+    let mut i = 0;
+    while i < number {
+        let n = start + i;
+        let next = send_marked(pass, flags[i], reach, width, n, prev[n], file, out, place);
         if !next.like {
             return next;
         }
         place = next.at;
-        x += 1;
+        i += 1;
     }
     Trail {
         at: place,
@@ -69,7 +82,60 @@ fn send_marks(
     }
 }
 
-// Sends the plunges of one row: the cells are marked, and looked at again only where some are. `flags` is left with the row's marks.
+// Whether fields that end at a place are only counted: the pass does no more, or is staging and has no room for them.
+fn counts(pass: Pass, end: usize, room: usize) -> bool
+    ensures { λ r. ⌜ r ≡ counting pass end room ⌝ }
+{
+    match pass {
+        Pass::Count => true,
+        Pass::Write => false,
+        Pass::Compare => false,
+        Pass::Stage => room < end,
+    }
+}
+
+// Sends the marked ones of some places, of which there are `count`: the marks are looked at only where there are some, and not for a count.
+fn send_some(
+    pass: Pass,
+    count: u8,
+    reach: Reach,
+    width: usize,
+    start: usize,
+    number: usize,
+    prev: &[u8],
+    flags: &[u8; marks::PLACES],
+    file: &[u8],
+    out: &mut [u8],
+    at: usize,
+) -> Trail
+    requires { ⌜ (1 ≤ width) × (width ≤ largestSide) × (number ≤ largestSide) × (start + number ≤ largestSide * width) × (start + number ≤ length (now prev)) × (length (now flags) ≡ places) × Fits (at + 7 * number) × (count ≡ length (marksTo number width (now prev) (reach .0) start (now flags))) × (count ≤ number) × Room pass (at + 7 * length (marksTo number width (now prev) (reach .0) start (now flags))) (now out) ⌝ }
+    ensures { λ r. ⌜ Sent pass (now (file .entry)) at (plungeFields (marksTo number width (now (prev .entry)) (reach .0) start (now (flags .entry)))) (now (out .entry)) (now (out .exit)) r ⌝ }
+{
+    if count == 0 {
+        return Trail { at, like: true };
+    }
+    let end = at + 7 * (count as usize);
+    if counts(pass, end, out.len()) {
+        return Trail {
+            at: end,
+            like: true,
+        };
+    }
+    send_marks(
+        pass,
+        reach,
+        width,
+        start,
+        number,
+        prev,
+        flags,
+        file,
+        out,
+        at,
+    )
+}
+
+// Sends the plunges of one row. `flags` is left with the row's marks.
 fn send_row(
     head: Head,
     pass: Pass,
@@ -82,24 +148,28 @@ fn send_row(
     flags: &mut [u8; marks::PLACES],
     at: usize,
 ) -> Trail
-    requires { ⌜ (head .width ≤ largestSide) × (row < largestSide) × (row < head .height) × (area head ≤ length (now prev)) × (area head ≤ length (now cur)) × (length (now flags) ≡ places) × Fits (at + 7 * head .width) × Room pass (at + 7 * length (rowPlunges head (now prev) (now cur) (reach .0) row)) (now out) ⌝ }
+    requires { ⌜ (1 ≤ head .width) × (head .width ≤ largestSide) × (row < largestSide) × (row < head .height) × (area head ≤ length (now prev)) × (area head ≤ length (now cur)) × (length (now flags) ≡ places) × Fits (at + 7 * head .width) × Room pass (at + 7 * length (rowPlunges head (now prev) (now cur) (reach .0) row)) (now out) ⌝ }
     ensures { λ r. ⌜ (length (now (flags .exit)) ≡ places) × Sent pass (now (file .entry)) at (plungeFields (rowPlunges head (now (prev .entry)) (now (cur .entry)) (reach .0) row)) (now (out .entry)) (now (out .exit)) r ⌝ }
 {
+    let width = head.width as usize;
+    let start = (row as usize) * width;
     let count = marks::mark_row(head, prev, cur, row, flags);
-    if count == 0 {
-        return Trail { at, like: true };
-    }
-    match pass {
-        Pass::Count => Trail {
-            at: at + 7 * (count as usize),
-            like: true,
-        },
-        Pass::Write => send_marks(pass, reach, row, head.width, prev, flags, file, out, at),
-        Pass::Compare => send_marks(pass, reach, row, head.width, prev, flags, file, out, at),
-    }
+    send_some(
+        pass,
+        count,
+        reach,
+        width,
+        start,
+        width,
+        prev,
+        flags,
+        file,
+        out,
+        at,
+    )
 }
 
-// Sends the plunges of one reach, row by row. The rows within the reach of the border are passed over: a ball there leaves the plate.
+// Sends the plunges of one reach, row by row.
 fn send_rows(
     head: Head,
     pass: Pass,
@@ -110,19 +180,14 @@ fn send_rows(
     out: &mut [u8],
     at: usize,
 ) -> Trail
-    requires { ⌜ (head .width ≤ largestSide) × (head .height ≤ largestSide) × (area head ≤ length (now prev)) × (area head ≤ length (now cur)) × Margin head (reach .0) (now prev) × Fits (at + 7 * area head) × Room pass (at + 7 * length (levelPlunges head (now prev) (now cur) (reach .0))) (now out) ⌝ }
+    requires { ⌜ (1 ≤ head .width) × (head .width ≤ largestSide) × (head .height ≤ largestSide) × (area head ≤ length (now prev)) × (area head ≤ length (now cur)) × Fits (at + 7 * area head) × Room pass (at + 7 * length (levelPlunges head (now prev) (now cur) (reach .0))) (now out) ⌝ }
     ensures { λ r. ⌜ Sent pass (now (file .entry)) at (plungeFields (levelPlunges head (now (prev .entry)) (now (cur .entry)) (reach .0))) (now (out .entry)) (now (out .exit)) r ⌝ }
 {
     let height = head.height;
-    let margin = reach.0 as u16;
-    if height <= margin {
-        return Trail { at, like: true };
-    }
-    let end = height - margin;
     let mut flags = [0u8; marks::PLACES];
     let mut place = at;
-    let mut row = margin;
-    while row < end {
+    let mut row = 0;
+    while row < height {
         let next = send_row(
             head,
             pass,
@@ -147,6 +212,122 @@ fn send_rows(
     }
 }
 
+// Sends the plunges of some places, each with the nine bytes about it for its window. `flags` is left with the places' marks.
+fn send_run(
+    head: Head,
+    pass: Pass,
+    reach: Reach,
+    start: usize,
+    number: usize,
+    prev: &[u8],
+    cur: &[u8],
+    file: &[u8],
+    out: &mut [u8],
+    flags: &mut [u8; marks::PLACES],
+    at: usize,
+) -> Trail
+    requires { ⌜ (1 ≤ head .width) × (head .width ≤ largestSide) × (head .height ≤ largestSide) × (head .width + 1 ≤ start) × (number ≤ largestSide) × (start + number + head .width + 1 ≤ area head) × (area head ≤ length (now prev)) × (area head ≤ length (now cur)) × (length (now flags) ≡ places) × Fits (at + 7 * number) × Room pass (at + 7 * length (gather number start (placePlunge head (now prev) (now cur) (reach .0)))) (now out) ⌝ }
+    ensures { λ r. ⌜ (length (now (flags .exit)) ≡ places) × Sent pass (now (file .entry)) at (plungeFields (gather number start (placePlunge head (now (prev .entry)) (now (cur .entry)) (reach .0)))) (now (out .entry)) (now (out .exit)) r ⌝ }
+{
+    let kind = head.kind;
+    let width = head.width as usize;
+    let count = marks::mark_run(kind, prev, cur, width, start, 0, number, flags);
+    send_some(
+        pass,
+        count,
+        reach,
+        width,
+        start,
+        number,
+        prev,
+        flags,
+        file,
+        out,
+        at,
+    )
+}
+
+// The length of the next run where some places are left.
+fn run_length(left: usize) -> usize
+    ensures { λ r. ⌜ r ≡ min left largestSide ⌝ }
+{
+    if left < marks::RUN { left } else { marks::RUN }
+}
+
+// Sends the plunges of one reach above 0, in runs of places. Those within the reach of the border are passed over: a ball there leaves the plate.
+fn send_runs(
+    head: Head,
+    pass: Pass,
+    reach: Reach,
+    prev: &[u8],
+    cur: &[u8],
+    file: &[u8],
+    out: &mut [u8],
+    at: usize,
+) -> Trail
+    requires { ⌜ (1 ≤ reach .0) × (head .width ≤ largestSide) × (head .height ≤ largestSide) × (area head ≤ length (now prev)) × (area head ≤ length (now cur)) × Margin head (reach .0) (now prev) × Fits (at + 7 * area head) × Room pass (at + 7 * length (levelPlunges head (now prev) (now cur) (reach .0))) (now out) ⌝ }
+    ensures { λ r. ⌜ Sent pass (now (file .entry)) at (plungeFields (levelPlunges head (now (prev .entry)) (now (cur .entry)) (reach .0))) (now (out .entry)) (now (out .exit)) r ⌝ }
+{
+    let width = head.width as usize;
+    let height = head.height as usize;
+    let margin = reach.0 as usize;
+    if width < 3 {
+        return Trail { at, like: true };
+    }
+    if height < 2 * margin + 1 {
+        return Trail { at, like: true };
+    }
+    let end = (height - margin) * width - 1;
+    let mut flags = [0u8; marks::PLACES];
+    let mut place = at;
+    let mut n = margin * width + 1;
+    while n < end {
+        let number = run_length(end - n);
+        let next = send_run(
+            head,
+            pass,
+            reach,
+            n,
+            number,
+            prev,
+            cur,
+            file,
+            out,
+            &mut flags,
+            place,
+        );
+        if !next.like {
+            return next;
+        }
+        place = next.at;
+        n += number;
+    }
+    Trail {
+        at: place,
+        like: true,
+    }
+}
+
+// Sends the plunges of one reach: of reach 0 row by row, as its cells may lie at the border, of others in runs.
+fn send_reach(
+    head: Head,
+    pass: Pass,
+    reach: Reach,
+    prev: &[u8],
+    cur: &[u8],
+    file: &[u8],
+    out: &mut [u8],
+    at: usize,
+) -> Trail
+    requires { ⌜ (1 ≤ head .width) × (head .width ≤ largestSide) × (head .height ≤ largestSide) × (area head ≤ length (now prev)) × (area head ≤ length (now cur)) × Margin head (reach .0) (now prev) × Fits (at + 7 * area head) × Room pass (at + 7 * length (levelPlunges head (now prev) (now cur) (reach .0))) (now out) ⌝ }
+    ensures { λ r. ⌜ Sent pass (now (file .entry)) at (plungeFields (levelPlunges head (now (prev .entry)) (now (cur .entry)) (reach .0))) (now (out .entry)) (now (out .exit)) r ⌝ }
+{
+    if reach.0 == 0 {
+        return send_rows(head, pass, reach, prev, cur, file, out, at);
+    }
+    send_runs(head, pass, reach, prev, cur, file, out, at)
+}
+
 // Sends the plunges of rung number k, whose reach is one less.
 fn send_level(
     head: Head,
@@ -158,12 +339,12 @@ fn send_level(
     out: &mut [u8],
     at: usize,
 ) -> Trail
-    requires { ⌜ (1 ≤ k) × (k ≤ largestRung) × (head .width ≤ largestSide) × (head .height ≤ largestSide) × (area head ≤ length (now prev)) × (area head ≤ length (now cur)) × Margin head (k - 1) (now prev) × Fits (at + 7 * area head) × Room pass (at + 7 * length (levelPlunges head (now prev) (now cur) (k - 1))) (now out) ⌝ }
+    requires { ⌜ (1 ≤ k) × (k ≤ largestRung) × (1 ≤ head .width) × (head .width ≤ largestSide) × (head .height ≤ largestSide) × (area head ≤ length (now prev)) × (area head ≤ length (now cur)) × Margin head (k - 1) (now prev) × Fits (at + 7 * area head) × Room pass (at + 7 * length (levelPlunges head (now prev) (now cur) (k - 1))) (now out) ⌝ }
     ensures { λ r. ⌜ Sent pass (now (file .entry)) at (plungeFields (levelPlunges head (now (prev .entry)) (now (cur .entry)) (k - 1))) (now (out .entry)) (now (out .exit)) r ⌝ }
 {
     let found = Reach::of_clearance(Clearance(k as u8));
     match found {
-        MaybeReach::OfReach(reach) => send_rows(head, pass, reach, prev, cur, file, out, at),
+        MaybeReach::OfReach(reach) => send_reach(head, pass, reach, prev, cur, file, out, at),
         MaybeReach::NoReach => Trail { at, like: true },
     }
 }
@@ -179,7 +360,7 @@ fn send_pair(
     out: &mut [u8],
     at: usize,
 ) -> Trail
-    requires { ⌜ (1 ≤ k) × (k ≤ largestRung) × (head .width ≤ largestSide) × (head .height ≤ largestSide) × (area head ≤ length (now a)) × (area head ≤ length (now b)) × (k % 2 ≡ 0 → Margin head (k - 1) (now b)) × (k % 2 ≡ 1 → Margin head (k - 1) (now a)) × Fits (at + 7 * area head) × Room pass (at + 7 * length (pairPlunges head k (now a) (now b))) (now out) ⌝ }
+    requires { ⌜ (1 ≤ k) × (k ≤ largestRung) × (1 ≤ head .width) × (head .width ≤ largestSide) × (head .height ≤ largestSide) × (area head ≤ length (now a)) × (area head ≤ length (now b)) × (k % 2 ≡ 0 → Margin head (k - 1) (now b)) × (k % 2 ≡ 1 → Margin head (k - 1) (now a)) × Fits (at + 7 * area head) × Room pass (at + 7 * length (pairPlunges head k (now a) (now b))) (now out) ⌝ }
     ensures { λ r. ⌜ Sent pass (now (file .entry)) at (plungeFields (pairPlunges head k (now (a .entry)) (now (b .entry)))) (now (out .entry)) (now (out .exit)) r ⌝ }
 {
     if k % 2 == 0 {

@@ -104,9 +104,9 @@ module _ {f : ℕ → ℕ → ℕ} (o : AnyOrder f) where
   past : (a b c : ℕ) → f a (f b c) ≡ f b (f a c)
   past a b c = cc (o .shift a b c, o .swap a b, o .shift b a c)
 
-  pub cross-in-order : {n w m e s : ℕ} → f (f n s) (f (f w m) e) ≡ f n (f w (f e (f s m)))
+  pub cross-in-order : {n w m e s : ℕ} → f (f n s) (f (f w e) m) ≡ f n (f w (f e (f s m)))
   cross-in-order = simp (o .swap, o .shift, past)
 
   pub nine-in-order : {a n b w m e d s g : ℕ}
-      → f (f (f (f a n) b) (f (f d s) g)) (f (f w m) e) ≡ f a (f n (f b (f w (f e (f d (f s (f g m)))))))
+      → f (f (f n s) (f (f w e) m)) (f (f a b) (f d g)) ≡ f a (f n (f b (f w (f e (f d (f s (f g m)))))))
   nine-in-order = simp (o .swap, o .shift, past)

@@ -28,18 +28,36 @@ pub fn less(a: u8, b: u8) -> u8
     if b < a { a - b } else { 0 }
 }
 
-// The lowest of three bytes.
-fn row_min(row: [u8; 3]) -> u8
-    ensures { λ r. ⌜ r ≡ min (min (getD row 0 0) (getD row 1 0)) (getD row 2 0) ⌝ }
+// The lowest of the middle and the four that share a side with it.
+fn cross_min(win: [[u8; 3]; 3]) -> u8
+    ensures { λ r. ⌜ r ≡ min (min (inWindow win 0 1) (inWindow win 2 1)) (min (min (inWindow win 1 0) (inWindow win 1 2)) (inWindow win 1 1)) ⌝ }
 {
-    lower(lower(row[0], row[1]), row[2])
+    lower(
+        lower(win[0][1], win[2][1]),
+        lower(lower(win[1][0], win[1][2]), win[1][1]),
+    )
 }
 
-// The highest of three bytes.
-fn row_max(row: [u8; 3]) -> u8
-    ensures { λ r. ⌜ r ≡ max (max (getD row 0 0) (getD row 1 0)) (getD row 2 0) ⌝ }
+// The lowest of the four corners.
+fn corners_min(win: [[u8; 3]; 3]) -> u8
+    ensures { λ r. ⌜ r ≡ min (min (inWindow win 0 0) (inWindow win 0 2)) (min (inWindow win 2 0) (inWindow win 2 2)) ⌝ }
 {
-    higher(higher(row[0], row[1]), row[2])
+    lower(lower(win[0][0], win[0][2]), lower(win[2][0], win[2][2]))
+}
+
+fn cross_max(win: [[u8; 3]; 3]) -> u8
+    ensures { λ r. ⌜ r ≡ max (max (inWindow win 0 1) (inWindow win 2 1)) (max (max (inWindow win 1 0) (inWindow win 1 2)) (inWindow win 1 1)) ⌝ }
+{
+    higher(
+        higher(win[0][1], win[2][1]),
+        higher(higher(win[1][0], win[1][2]), win[1][1]),
+    )
+}
+
+fn corners_max(win: [[u8; 3]; 3]) -> u8
+    ensures { λ r. ⌜ r ≡ max (max (inWindow win 0 0) (inWindow win 0 2)) (max (inWindow win 2 0) (inWindow win 2 2)) ⌝ }
+{
+    higher(higher(win[0][0], win[0][2]), higher(win[2][0], win[2][2]))
 }
 
 // The lowest of a window among the middle cell and its neighbours.
@@ -47,8 +65,8 @@ pub fn window_min(kind: Kind, win: [[u8; 3]; 3]) -> u8
     ensures { λ r. ⌜ r ≡ windowMin kind win ⌝ }
 {
     match kind {
-        Kind::Diamond => lower(lower(win[0][1], win[2][1]), row_min(win[1])),
-        Kind::Square => lower(lower(row_min(win[0]), row_min(win[2])), row_min(win[1])),
+        Kind::Diamond => cross_min(win),
+        Kind::Square => lower(cross_min(win), corners_min(win)),
     }
 }
 
@@ -57,8 +75,8 @@ pub fn window_max(kind: Kind, win: [[u8; 3]; 3]) -> u8
     ensures { λ r. ⌜ r ≡ windowMax kind win ⌝ }
 {
     match kind {
-        Kind::Diamond => higher(higher(win[0][1], win[2][1]), row_max(win[1])),
-        Kind::Square => higher(higher(row_max(win[0]), row_max(win[2])), row_max(win[1])),
+        Kind::Diamond => cross_max(win),
+        Kind::Square => higher(cross_max(win), corners_max(win)),
     }
 }
 

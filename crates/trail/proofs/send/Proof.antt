@@ -1,9 +1,12 @@
 -- `send` does with the field what the pass says.
 use Rattle.fields.specs.Fields.{plungeField}
-use Rattle.trail.proofs.Passes.{sent-counted, sent-written, sent-compared}
+use Rattle.trail.proofs.Passes.{sent-counted, sent-written, sent-compared, sent-staged}
 use borrow.Author.Needs.{needs}
 use Rattle.trail.proofs.send.Statement.{statement}
 use Rattle.trail.proofs.send.Tie as tie
+use Rattle.fields.proofs.put_plunge.Reads as put-plunge-reads
+use Rattle.trail.proofs.compare.Reads as compare-reads
+use Rattle.trail.proofs.stage.Reads as stage-reads
 
 enum-told : tie.Need-enum-told
 enum-told c = search needs
@@ -26,6 +29,15 @@ enum-told-3 c = search needs
 compare-requires : tie.Need-compare-requires
 compare-requires c κs = search needs
 
+enum-told-4 : tie.Need-enum-told-4
+enum-told-4 c = search needs
+
+stage-requires : tie.Need-stage-requires
+stage-requires c κs = search needs
+
+add-t15 : tie.Need-add-t15
+add-t15 c = search needs
+
 returns : tie.Need-returns
 returns c = sent-counted (c .before .before .before .before .args .pass) (c .before .before .before .before .args .file .now) (c .before .before .before .before .args .at) (plungeField (c .before .before .before .before .args .q)) (c .before .before .before .before .args .out .now) (c .before .before .before .before .args .out .now) (c .enum-told .given .1)
 
@@ -38,6 +50,12 @@ returns-2 c = sent-written (c .before .before .before .before .before .before .b
 returns-3 : tie.Need-returns-3
 returns-3 c = sent-compared (c .before .before .before .before .before .args .pass) (c .before .before .before .before .before .args .file .now) (c .before .before .before .before .before .args .at) (plungeField (c .before .before .before .before .before .args .q)) (c .before .before .before .before .before .args .out .now) (c .before .before .before .before .before .args .out .now) (c .before .enum-told3 .given .1) _ (c .compare .ensures .0) (c .compare .ensures .1)
 
+same-length-2 : tie.Need-same-length-2
+same-length-2 c = search needs
+
+returns-4 : tie.Need-returns-4
+returns-4 c = sent-staged (c .before .before .before .before .before .before .before .before .args .pass) (c .before .before .before .before .before .before .before .before .args .file .now) (c .before .before .before .before .before .before .before .before .args .at) (plungeField (c .before .before .before .before .before .before .before .before .args .q)) (c .before .before .before .before .before .before .before .before .args .out .now) _ (c .before .before .before .before .enum-told4 .given .1) (c .before .before .stage .ensures)
+
 pub send-spec : {M : Type 1} → statement M
 send-spec =
     tie.close
@@ -49,7 +67,12 @@ send-spec =
     add-t11
     enum-told-3
     compare-requires
+    enum-told-4
+    stage-requires
+    add-t15
     returns
     same-length
     returns-2
-    returns-3)
+    returns-3
+    same-length-2
+    returns-4)

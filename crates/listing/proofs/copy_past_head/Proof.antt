@@ -1,0 +1,54 @@
+-- `copy_past_head` copies byte after byte: the invariant is the copy up to the place reached.
+use mathlib.Core.Path.{_≡_, refl, ap, _∙_}
+use Prim.Native.Nat.{ℕ, _-_, _≤_}
+use native.Mathlib.Omega.{arith}
+use lib.ListN.{length, getD, drop, length-set}
+use lib.Seq.{paste, paste-zero}
+use Rattle.listing.proofs.Files.{copy-more}
+use Rattle.listing.proofs.copy_past_head.Statement.{statement}
+use Rattle.listing.proofs.copy_past_head.Tie as tie
+
+abbrev Inv-loop : tie.InvT-loop
+Inv-loop src dst₀ to n₀ dst n = (6 ≤ n) × (n ≤ to) × (length dst ≡ length dst₀) × (dst ≡ paste dst₀ 6 (drop 6 src) (n - 6))
+
+abbrev μ-loop : tie.MeasureT-loop
+μ-loop src dst₀ to n₀ dst n = to - n
+
+loop-holds : tie.Need-loop-holds Inv-loop μ-loop
+loop-holds c = (omega arith, omega arith, refl, paste-zero (c .args .dst .now) 6 (drop 6 (c .args .src .now)))
+
+shared-slice-read-dst : tie.Need-shared-slice-read-dst Inv-loop μ-loop
+shared-slice-read-dst c = omega arith
+
+slice-write-dst : tie.Need-slice-write-dst Inv-loop μ-loop
+slice-write-dst c = omega arith
+
+add-n : tie.Need-add-n Inv-loop μ-loop
+add-n c = omega arith
+
+loop-less : tie.Need-loop-less Inv-loop μ-loop
+loop-less c = omega arith
+
+loop-again : tie.Need-loop-again Inv-loop μ-loop
+loop-again c = (omega arith, omega arith, omega (arith, length-set (c .before .before .loop .dst) (c .before .before .loop .n) (getD (c .before .before .before .args .src .now) (c .before .before .loop .n) 0)), copy-more (c .before .before .before .args .dst .now) (c .before .before .loop .dst) (c .before .before .before .args .src .now) (c .before .before .loop .n) (c .before .before .loop .inv .0) (omega arith) (omega arith) (c .before .before .loop .inv .3))
+
+same-length : tie.Need-same-length Inv-loop μ-loop
+same-length c = omega arith
+
+returns : tie.Need-returns Inv-loop μ-loop
+returns c = let e : c .before .loop .n ≡ c .before .before .args .to = omega arith in c .before .loop .inv .3 ∙ ap (λ (k : ℕ). paste (c .before .before .args .dst .now) 6 (drop 6 (c .before .before .args .src .now)) (k - 6)) e
+
+pub copy-past-head-spec : {M : Type 1} → statement M
+copy-past-head-spec =
+    tie.close
+    (tie.spec
+    Inv-loop
+    μ-loop
+    loop-holds
+    shared-slice-read-dst
+    slice-write-dst
+    add-n
+    loop-less
+    loop-again
+    same-length
+    returns)
