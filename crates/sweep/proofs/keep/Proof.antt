@@ -1,6 +1,6 @@
 -- `keep` is `kept`, by the test against the window's highest number.
 use borrow.Author.Needs.{needs}
-use borrow.Author.Tests.{le-leb, lt-leb}
+use Rattle.sweep.proofs.Keeping.{keeps, drops}
 use Rattle.sweep.proofs.keep.Statement.{statement}
 use Rattle.sweep.proofs.keep.Tie as tie
 
@@ -14,10 +14,10 @@ window-max-requires : tie.Need-window-max-requires
 window-max-requires c κs = search needs
 
 returns : tie.Need-returns
-returns c = rw (← c .before .window-max .ensures, le-leb _ _ (c .if1 .taken))
+returns c = keeps _ _ _ (c .before .window-max .ensures) (c .if1 .taken)
 
 returns-2 : tie.Need-returns-2
-returns-2 c = rw (← c .before .window-max .ensures, lt-leb _ _ (c .if1 .left))
+returns-2 c = drops _ _ _ (c .before .window-max .ensures) (c .if1 .left)
 
 pub keep-spec : {M : Type 1} → statement M
 keep-spec =
