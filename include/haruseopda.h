@@ -142,7 +142,7 @@ typedef struct {
     double sink;
 } haru_motions_answer;
 
-/* The motions of plunge number i (from 0) of a file. The file's refusals, 13, 14. */
+/* The motions of plunge number i (from 0) of a file. The file's refusals, 13, 14. Each call reads the whole file first. */
 haru_motions_answer haru_motions(const uint8_t *file, size_t file_len, size_t i, haru_scale scale);
 
 #ifdef __cplusplus

@@ -138,8 +138,8 @@ fn is_changed(file: &[u8], i: usize) -> bool
     q.reach.0 != before.reach.0
 }
 
-// Refusals 13 and 14, then the motions of plunge number i of a readable file.
-fn motions_at(file: &[u8], plunges: usize, i: usize, scale: Scale) -> MotionAnswer
+// Refusals 13 and 14, then the motions of plunge number i of a readable file: for a caller that read it once and asks for many.
+pub fn motions_at(file: &[u8], plunges: usize, i: usize, scale: Scale) -> MotionAnswer
     requires { ⌜ IsReadable (now file) × (plunges ≡ total (now file)) ⌝ }
     ensures { λ r. ⌜ r ≡ motionsIn (now (file .entry)) i scale ⌝ }
 {

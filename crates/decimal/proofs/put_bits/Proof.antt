@@ -1,0 +1,61 @@
+-- `put_bits` goes by the exponent field.
+use borrow.Author.Needs.{needs}
+use Rattle.decimal.proofs.put_bits.Statement.{statement}
+use Rattle.decimal.proofs.put_bits.Tie as tie
+use Rattle.decimal.proofs.digits_of.Reads as digits-of-reads
+use Rattle.decimal.proofs.parts_of.Reads as parts-of-reads
+use Rattle.decimal.proofs.put_hexadecimal.Reads as put-hexadecimal-reads
+use Rattle.decimal.proofs.put_parts.Reads as put-parts-reads
+use native.Mathlib.Nat.{mod-lt}
+use lib.Dec.{lit<}
+use Rattle.decimal.proofs.Sizes.{half-pos, fraction-below, whole-below}
+use Rattle.decimal.proofs.Floats.{bits-below, bits-above, bits-within}
+
+put-hexadecimal-requires : tie.Need-put-hexadecimal-requires
+put-hexadecimal-requires c κs = search needs
+
+same-length : tie.Need-same-length
+same-length c = search needs
+
+returns : tie.Need-returns
+returns c = bits-below (c .before .before .before .before .before .before .args .bits) _ _ (c .before .before .before .before .before .before .args .at) _ (c .before .before .before .before .if1 .taken) (c .before .before .put-hexadecimal .ensures)
+
+put-hexadecimal-requires-2 : tie.Need-put-hexadecimal-requires-2
+put-hexadecimal-requires-2 c κs = search needs
+
+same-length-2 : tie.Need-same-length-2
+same-length-2 c = search needs
+
+returns-2 : tie.Need-returns-2
+returns-2 c = bits-above (c .before .before .before .before .before .before .before .args .bits) _ _ (c .before .before .before .before .before .before .before .args .at) _ (c .before .before .before .before .before .if1 .left) (c .before .before .before .before .if2 .taken) (c .before .before .put-hexadecimal2 .ensures)
+
+parts-of-requires : tie.Need-parts-of-requires
+parts-of-requires c κs = search needs
+
+digits-of-requires : tie.Need-digits-of-requires
+digits-of-requires c κs = (rw (c .parts-of .ensures) (half-pos _ _), rw (c .parts-of .ensures) (fraction-below _ _))
+
+put-parts-requires : tie.Need-put-parts-requires
+put-parts-requires c κs = (rw (c .before .before .parts-of .ensures) (whole-below _ _ (c .before .before .before .if2 .left) (mod-lt (c .before .before .before .before .before .before .args .bits) (lit< tt))), c .before .digits-of .ensures .few)
+
+same-length-3 : tie.Need-same-length-3
+same-length-3 c = search needs
+
+returns-3 : tie.Need-returns-3
+returns-3 c = bits-within (c .before .before .before .before .before .before .before .before .before .args .bits) _ _ (c .before .before .before .before .before .before .before .before .before .args .at) _ (c .before .before .before .before .before .parts-of .result) (c .before .before .before .before .digits-of .result) (c .before .before .before .before .before .before .before .if1 .left) (c .before .before .before .before .before .before .if2 .left) (c .before .before .before .before .before .parts-of .ensures) (c .before .before .before .before .digits-of .ensures) (c .before .before .put-parts .ensures)
+
+pub put-bits-spec : {M : Type 1} → statement M
+put-bits-spec =
+    tie.close
+    (tie.spec
+    put-hexadecimal-requires
+    same-length
+    returns
+    put-hexadecimal-requires-2
+    same-length-2
+    returns-2
+    parts-of-requires
+    digits-of-requires
+    put-parts-requires
+    same-length-3
+    returns-3)

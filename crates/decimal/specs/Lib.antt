@@ -1,0 +1,4 @@
+pub mod Decimal
+pub mod Scan
+pub mod Digits
+pub mod Text

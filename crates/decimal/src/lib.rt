@@ -1,0 +1,394 @@
+// Decimal text as the nearest float, and a float as the shortest decimal text.
+ghost use mathlib.Core.Path.{_≡_};
+ghost use mathlib.Core.Bool.{false, cond};
+ghost use Prim.Native.Nat.{_+_, _-_, _*_, _^_, _≤_, _<_};
+ghost use lib.Dec.{eqb, leb};
+ghost use lib.ListN.{length};
+ghost use lib.Ieee.{binary64, round};
+ghost use lib.Ieee.Nearest.{closest};
+ghost use Rattle.fields.specs.Writing.{spliced};
+ghost use Rattle.decimal.specs.Decimal.{isDigit, decimalOf, unsignedOf};
+ghost use Rattle.decimal.specs.Scan.{Bounded, begun, spoiled, pointed, withDigit, stepped, scanned};
+ghost use Rattle.decimal.specs.Digits.{partsOf, Shortest};
+ghost use Rattle.decimal.specs.Text.{digitByte, digitText, IsSize, Put, hexadecimal, notNumber, PutParts, PutBits, PutNumber};
+
+// What a text is: the nearest float, no number, or a number of more than 15 digits.
+pub enum Decimal {
+    Number(f64),
+    NotNumber,
+    TooLong,
+}
+
+// What was read of a number without its sign: its digits as one number, ten to the power of its places after the point,
+// how many digits there were (16 for any more), whether a point came, and whether all is right so far.
+pub struct Scan {
+    pub digits: u64,
+    pub unit: u64,
+    pub count: usize,
+    pub point: bool,
+    pub good: bool,
+}
+
+fn is_digit(b: u8) -> bool
+    ensures { λ r. ⌜ r ≡ isDigit b ⌝ }
+{
+    if 48 <= b { b <= 57 } else { false }
+}
+
+// Ten after the point, one before it.
+fn factor(point: bool) -> u64
+    ensures { λ r. ⌜ r ≡ cond point 10 1 ⌝ }
+{
+    if point { 10 } else { 1 }
+}
+
+// One digit more. From the sixteenth on their number is all that is kept.
+fn with_digit(s: Scan, digit: u64) -> Scan
+    requires { ⌜ Bounded s × (digit < 10) ⌝ }
+    ensures { λ r. ⌜ r ≡ withDigit s digit ⌝ }
+{
+    if s.count < 15 {
+        Scan {
+            digits: 10 * s.digits + digit,
+            unit: s.unit * factor(s.point),
+            count: s.count + 1,
+            point: s.point,
+            good: s.good,
+        }
+    } else {
+        Scan {
+            digits: 0,
+            unit: 1,
+            count: 16,
+            point: s.point,
+            good: s.good,
+        }
+    }
+}
+
+fn spoil(s: Scan) -> Scan
+    ensures { λ r. ⌜ r ≡ spoiled s ⌝ }
+{
+    Scan {
+        digits: s.digits,
+        unit: s.unit,
+        count: s.count,
+        point: s.point,
+        good: false,
+    }
+}
+
+// A point: the first is right, a second is not.
+fn with_point(s: Scan) -> Scan
+    ensures { λ r. ⌜ r ≡ pointed s ⌝ }
+{
+    if s.point {
+        spoil(s)
+    } else {
+        Scan {
+            digits: s.digits,
+            unit: s.unit,
+            count: s.count,
+            point: true,
+            good: s.good,
+        }
+    }
+}
+
+// One byte more.
+fn step(s: Scan, b: u8) -> Scan
+    requires { ⌜ Bounded s ⌝ }
+    ensures { λ r. ⌜ r ≡ stepped s b ⌝ }
+{
+    if is_digit(b) {
+        with_digit(s, (b as u64) - 48)
+    } else {
+        if b == b'.' { with_point(s) } else { spoil(s) }
+    }
+}
+
+fn scan_all(text: &[u8]) -> Scan
+    ensures { λ r. ⌜ r ≡ scanned begun (now (text .entry)) ⌝ }
+{
+    let mut s = Scan {
+        digits: 0,
+        unit: 1,
+        count: 0,
+        point: false,
+        good: true,
+    };
+    let mut i = 0;
+    while i < text.len() {
+        s = step(s, text[i]);
+        i += 1;
+    }
+    s
+}
+
+// Both numbers are floats exactly, so only the quotient rounds.
+fn quotient(negative: bool, digits: u64, unit: u64) -> f64
+    requires { ⌜ (digits ≤ 10 ^ 15) × (0 < unit) × (unit ≤ 10 ^ 15) ⌝ }
+    ensures { λ r. ⌜ r ≡ round binary64 negative digits unit ⌝ }
+{
+    let size = std::num::nearest_u64_to_f64(digits) / std::num::nearest_u64_to_f64(unit);
+    if negative { -size } else { size }
+}
+
+// A number without its sign.
+fn unsigned(text: &[u8], negative: bool) -> Decimal
+    ensures { λ r. ⌜ r ≡ unsignedOf negative (now (text .entry)) ⌝ }
+{
+    let s = scan_all(text);
+    if !s.good {
+        return Decimal::NotNumber;
+    }
+    if s.count == 0 {
+        return Decimal::NotNumber;
+    }
+    if 15 < s.count {
+        return Decimal::TooLong;
+    }
+    Decimal::Number(quotient(negative, s.digits, s.unit))
+}
+
+// An optional '-', then digits with at most one point among them, at least one digit in all, and nothing else.
+pub fn number_of(text: &[u8]) -> Decimal
+    ensures { λ r. ⌜ r ≡ decimalOf (now (text .entry)) ⌝ }
+{
+    if text.len() == 0 {
+        return unsigned(text, false);
+    }
+    if text[0] == b'-' {
+        unsigned(&text[1..], true)
+    } else {
+        unsigned(text, false)
+    }
+}
+
+// ---- a float as decimal text
+
+// What follows the point: a number of so many digits.
+pub struct Digits {
+    pub number: u64,
+    pub count: usize,
+}
+
+// A float's size, whole + fraction / 2^60, and half the distance to the nearest other float, over 2^60.
+pub struct Parts {
+    pub whole: u64,
+    pub fraction: u64,
+    pub half: u64,
+}
+
+// 2^60
+const ONE: u64 = 1152921504606846976;
+
+// The number of floats from a power of two to the next, 2^52.
+const STEPS: u64 = 4503599627370496;
+
+fn power(n: u64) -> u64
+    requires { ⌜ n < 64 ⌝ }
+    ensures { λ r. ⌜ r ≡ 2 ^ n ⌝ }
+{
+    1 << n
+}
+
+// Below a power of two the floats stand twice as close.
+fn half_gap(unit: u64, below: u64) -> u64
+    requires { ⌜ unit ≤ 2 ^ 25 ⌝ }
+    ensures { λ r. ⌜ r ≡ cond (eqb below 0) unit (2 * unit) ⌝ }
+{
+    if below == 0 { unit } else { 2 * unit }
+}
+
+// The float with this exponent field and these digits below the leading one, from 2^-6 to below 2^20.
+fn parts_of(field: u64, below: u64) -> Parts
+    requires { ⌜ (1017 ≤ field) × (field ≤ 1042) × (below < 2 ^ 52) ⌝ }
+    ensures { λ r. ⌜ r ≡ partsOf field below ⌝ }
+{
+    let unit = power(field - 1017);
+    let cut = power(1075 - field);
+    let size = STEPS + below;
+    Parts {
+        whole: size / cut,
+        fraction: size % cut * (4 * unit),
+        half: half_gap(unit, below),
+    }
+}
+
+// Whether no number of so many digits is within the margin.
+fn is_far(rest: u64, margin: u64) -> bool
+    requires { ⌜ rest < 2 ^ 60 ⌝ }
+    ensures { λ r. ⌜ r ≡ cond (leb margin rest) (leb margin (2 ^ 60 - rest)) false ⌝ }
+{
+    if margin <= rest {
+        margin <= ONE - rest
+    } else {
+        false
+    }
+}
+
+// The nearer of number and the next one; of two as near, the even one.
+fn nearer(number: u64, rest: u64) -> u64
+    requires { ⌜ (rest < 2 ^ 60) × (number < 2 ^ 63) ⌝ }
+    ensures { λ r. ⌜ r ≡ closest (number * 2 ^ 60 + rest) (2 ^ 60) ⌝ }
+{
+    if 2 * rest < ONE {
+        return number;
+    }
+    if ONE < 2 * rest {
+        return number + 1;
+    }
+    number + number % 2
+}
+
+// The fewest digits that stand for a fraction of 2^60 to within half, and of those the nearest.
+fn digits_of(fraction: u64, half: u64) -> Digits
+    requires { ⌜ (0 < half) × (fraction < 2 ^ 60) ⌝ }
+    ensures { λ r. ⌜ Shortest fraction half r ⌝ }
+{
+    let mut rest = fraction;
+    let mut margin = half;
+    let mut number = 0;
+    let mut count: usize = 0;
+    while is_far(rest, margin) {
+        number = 10 * number + 10 * rest / ONE;
+        rest = 10 * rest % ONE;
+        margin *= 10;
+        count += 1;
+    }
+    Digits {
+        number: nearer(number, rest),
+        count,
+    }
+}
+
+fn digit_byte(digit: u64) -> u8
+    requires { ⌜ digit < 16 ⌝ }
+    ensures { λ r. ⌜ r ≡ digitByte digit ⌝ }
+{
+    if digit < 10 {
+        (48 + digit) as u8
+    } else {
+        (87 + digit) as u8
+    }
+}
+
+// The last count digits of a number, zeros before it where it has fewer.
+fn put_digits(n: u64, base: u64, count: usize, out: &mut [u8], at: usize)
+    requires { ⌜ (2 ≤ base) × (base ≤ 16) × (at + count ≤ length (now out)) ⌝ }
+    ensures { λ r. ⌜ now (out .exit) ≡ spliced (now (out .entry)) at (digitText base count n) ⌝ }
+{
+    let mut left = n;
+    let mut i = count;
+    while 0 < i {
+        i -= 1;
+        out[at + i] = digit_byte(left % base);
+        left = left / base;
+    }
+}
+
+// How many decimal digits a number has: 1 for 0.
+fn size_of(n: u64) -> usize
+    requires { ⌜ n < 2 ^ 60 ⌝ }
+    ensures { λ r. ⌜ IsSize n r ⌝ }
+{
+    let mut count: usize = 1;
+    let mut unit: u64 = 10;
+    while unit <= n {
+        unit *= 10;
+        count += 1;
+    }
+    count
+}
+
+// How long the text after a whole number is.
+fn tail_length(count: usize) -> usize
+    requires { ⌜ count < 100 ⌝ }
+    ensures { λ r. ⌜ r ≡ cond (eqb count 0) 0 (1 + count) ⌝ }
+{
+    if count == 0 { 0 } else { 1 + count }
+}
+
+// Whether so many bytes fit at a place.
+fn has_room(length: usize, at: usize, bytes: usize) -> bool
+    ensures { λ r. ⌜ r ≡ leb (at + bytes) length ⌝ }
+{
+    if at <= length {
+        bytes <= length - at
+    } else {
+        false
+    }
+}
+
+// Whole number, and after a point the fraction's digits, if there are any.
+fn put_parts(whole: u64, d: Digits, out: &mut [u8], at: usize) -> usize
+    requires { ⌜ (whole < 2 ^ 60) × (d .count ≤ 18) ⌝ }
+    ensures { λ r. ⌜ PutParts whole d (now (out .entry)) (now (out .exit)) at r ⌝ }
+{
+    let size = size_of(whole);
+    let count = d.count;
+    let total = size + tail_length(count);
+    if !has_room(out.len(), at, total) {
+        return at;
+    }
+    put_digits(whole, 10, size, out, at);
+    if count == 0 {
+        return at + size;
+    }
+    out[at + size] = b'.';
+    put_digits(d.number, 10, count, out, at + size + 1);
+    at + total
+}
+
+// 0x and 16 hexadecimal digits.
+fn put_hexadecimal(bits: u64, out: &mut [u8], at: usize) -> usize
+    ensures { λ r. ⌜ Put (hexadecimal bits) (now (out .entry)) (now (out .exit)) at r ⌝ }
+{
+    if !has_room(out.len(), at, 18) {
+        return at;
+    }
+    out[at] = b'0';
+    out[at + 1] = b'x';
+    put_digits(bits, 16, 16, out, at + 2);
+    at + 18
+}
+
+fn put_nan(out: &mut [u8], at: usize) -> usize
+    ensures { λ r. ⌜ Put notNumber (now (out .entry)) (now (out .exit)) at r ⌝ }
+{
+    if !has_room(out.len(), at, 3) {
+        return at;
+    }
+    out[at] = b'n';
+    out[at + 1] = b'a';
+    out[at + 2] = b'n';
+    at + 3
+}
+
+fn put_bits(bits: u64, out: &mut [u8], at: usize) -> usize
+    ensures { λ r. ⌜ PutBits bits (now (out .entry)) (now (out .exit)) at r ⌝ }
+{
+    let field = bits / STEPS;
+    if field < 1017 {
+        return put_hexadecimal(bits, out, at);
+    }
+    if 1042 < field {
+        return put_hexadecimal(bits, out, at);
+    }
+    let parts = parts_of(field, bits % STEPS);
+    let d = digits_of(parts.fraction, parts.half);
+    put_parts(parts.whole, d, out, at)
+}
+
+// From 2^-6 to below 2^20: the shortest decimal within half the distance to the nearest other float, which reads back as x.
+// Other floats, which the press never asks for: their bits in hexadecimal, or nan. What does not fit is not written.
+// Gives the place after the text.
+pub fn put_number(x: f64, out: &mut [u8], at: usize) -> usize
+    ensures { λ r. ⌜ PutNumber x (now (out .entry)) (now (out .exit)) at r ⌝ }
+{
+    if x != x {
+        return put_nan(out, at);
+    }
+    put_bits(f64::to_bits(x), out, at)
+}

@@ -1,0 +1,23 @@
+-- `scan_length` multiplies two bytes.
+use borrow.Author.Needs.{needs}
+use Rattle.jobtool.proofs.scan_length.Statement.{statement}
+use Rattle.jobtool.proofs.scan_length.Tie as tie
+use Rattle.jobtool.proofs.scan_length.Reads as reads
+use Rattle.jobtool.proofs.scan_length.Lts as lts
+use native.Mathlib.Omega.{arith}
+use Rattle.refusal.proofs.Refusals.{area-fits}
+
+-- src/main.rt:119:9
+mul-result : tie.Need-mul-result
+mul-result c = omega (arith, area-fits (c .args .width) (c .args .height) (omega arith) (omega arith))
+
+-- src/main.rt:119:5
+add-result : tie.Need-add-result
+add-result c = omega (arith, area-fits (c .args .width) (c .args .height) (omega arith) (omega arith))
+
+-- src/main.rt:118:1
+returns : tie.Need-returns
+returns c = search needs
+
+pub scan-length-spec : {M : Type 1} → statement M
+scan-length-spec = tie.close (tie.spec mul-result add-result returns)
