@@ -6,7 +6,6 @@ use native.Mathlib.Omega.{arith}
 use native.Mathlib.Decide.{decLe}
 use borrow.Author.Tests.{lt-ltb, le-ltb}
 use lib.ListN.{length, getD}
-use lib.Seq.{ext-getD}
 use Rattle.geometry.specs.declared.Kind.{Kind}
 use Rattle.geometry.specs.declared.Kind.the-variants.{Diamond, Square}
 use Rattle.geometry.specs.declared.Head.{Head}
@@ -34,14 +33,6 @@ use Rattle.sweep.specs.Sweep.{windowRows, leaf, rowOf, SweptRow}
 pub between : (w e y h n : ℕ) → 2 * e < w → y < h → h * w ≤ n → (y * w + e + (w - 2 * e) ≤ n)
 between w e y h n a b c = omega (arith, row-end w y h b)
 
--- an array copied up to its last column is the array
-pub moved : (w : ℕ) (src dst dst′ : List ℕ) → w ≤ 240 → Margins w src → Margins w dst → Filled (λ n. getD src n 0) 0 (margin + w) dst dst′ → dst′ ≡ src
-moved w src dst dst′ k s d h = ext-getD 0 dst′ src (h .same ∙ d .size ∙ sym (s .size)) (λ n l. go n (decLe (margin + w) n))
-  where
-    go : (n : ℕ) → Dec (margin + w ≤ n) → getD dst′ n 0 ≡ getD src n 0
-    go n (yes l) = h .over n l ∙ d .over n l ∙ sym (s .over n l)
-    go n (no l) = h .inside n (omega arith) (omega arith)
-
 module _ (p : Head) (e : ℕ) where
   abbrev w : ℕ
   w = p .width
@@ -56,17 +47,6 @@ module _ (p : Head) (e : ℕ) where
   pub row-cleared : (m : List ℕ) (y : ℕ) (row row′ : List ℕ) → Margins inner row → p .height ≤ y + e → Filled (λ n. 0) margin (margin + inner) row row′ → Row (rowOf p e m y) inner row′
   row-cleared m y row row′ a l h =
       record { margins = margins-filled _ inner row row′ a h; cells = λ x g. h .inside (margin + x) (omega arith) (omega arith) ∙ rw (le-ltb _ _ l) }
-
-  pub swept-row : (lf : Leaf) (y : ℕ) (above above′ mid mid′ below′ map map′ : List ℕ) → w ≤ 240 → Margins inner above → Margins inner mid → Row (rowOf p e map (y + 1)) inner below′
-      → Filled (λ n. leaf lf (p .kind) (windowRows above mid below′ (margin + (n - (y * w + e))))) (y * w + e) (y * w + e + inner) map map′
-      → Filled (λ n. getD mid n 0) 0 (margin + inner) above above′ → Filled (λ n. getD below′ n 0) 0 (margin + inner) mid mid′ → SweptRow p lf e y above above′ mid mid′ below′ map map′
-  swept-row lf y above above′ mid mid′ below′ map map′ k a m b o c d =
-      record {
-        map-is = o;
-        below-is = b;
-        mid-is = moved inner below′ mid mid′ (omega arith) (b .margins) m d;
-        above-is = moved inner mid above above′ (omega arith) m a c;
-      }
 
   -- ---- what a map has outside the rows and columns that are swept
 
@@ -234,15 +214,16 @@ module _ (p : Head) (e : ℕ) where
     apart : (y j x i : ℕ) → x < w → j < y → j * w + x < y * w + i
     apart y j x i a b = omega (arith, row-under w y x j a b)
 
-    pub swept-more : (lf : Leaf) (y : ℕ) (above mid below map above′ mid′ below′ new : List ℕ) → 2 * e < w → SweptTo m lf y above mid below map → y + e < p .height → SweptRow p lf e y above above′ mid mid′ below′ map new → SweptTo m lf (y + 1) above′ mid′ below′ new
-    swept-more lf y above mid below map above′ mid′ below′ new wide a tall r =
+    -- a row more, and the arrays change roles: the row above is read over next
+    pub swept-more : (lf : Leaf) (y : ℕ) (above mid below map below′ new : List ℕ) → 2 * e < w → SweptTo m lf y above mid below map → y + e < p .height → SweptRow p lf e y above mid below′ map new → SweptTo m lf (y + 1) mid below′ above new
+    swept-more lf y above mid below map below′ new wide a tall r =
         record {
           from = omega (arith, a .from);
           within = omega arith;
           same = r .map-is .same ∙ a .same;
-          above-is = subst (Row (before-row m (y + 1)) inner) (sym (r .above-is)) (a .mid-is);
-          mid-is = subst (Row (before-row m (y + 1 + 1)) inner) (sym (r .mid-is)) next;
-          below-margins = next .margins;
+          above-is = a .mid-is;
+          mid-is = next;
+          below-margins = a .above-is .margins;
           done = λ j x g h l. go j x g h l (decLe y j);
           rest = λ n g. out n g (decLe (y * w + e) n) (decLe (y * w + e + inner) n) ∙ a .rest n (λ t. g (t .0, t .1, t .2, omega (arith, t .3), t .4, t .5));
         }

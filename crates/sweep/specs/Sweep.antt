@@ -34,9 +34,7 @@ leaf v.Highest kd win = windowMax kd win
 abbrev pub rowOf : Head → ℕ → List ℕ → ℕ → ℕ → ℕ
 rowOf p e m y x = cond (ltb (y + e) (p .height)) (getD m (y * p .width + e + x) 0) 0
 
--- row y: what is made of its windows, between the edges, and the three rows one further down
-pub record SweptRow (p : Head) (lf : Leaf) (e y : ℕ) (above above′ mid mid′ below′ map map′ : List ℕ) : Type 0 where
+-- row y: what is made of its windows, between the edges, and the row below it as it was read
+pub record SweptRow (p : Head) (lf : Leaf) (e y : ℕ) (above mid below′ map map′ : List ℕ) : Type 0 where
   pub map-is : Filled (λ n. leaf lf (p .kind) (windowRows above mid below′ (margin + (n - (y * p .width + e))))) (y * p .width + e) (y * p .width + e + (p .width - 2 * e)) map map′
   pub below-is : Row (rowOf p e map (y + 1)) (p .width - 2 * e) below′
-  pub mid-is : mid′ ≡ below′
-  pub above-is : above′ ≡ mid

@@ -100,19 +100,19 @@ fn read_row(head: Head, edge: usize, map: &[u8], y: usize, row: &mut [u8; PLACES
     }
 }
 
-// Sweeps row y between the edges; then the rows in the arrays move up by one.
+// Sweeps row y between the edges, after the row below it is read.
 fn sweep_row(
     made: Leaf,
     head: Head,
     edge: usize,
     y: usize,
-    above: &mut [u8; PLACES],
-    mid: &mut [u8; PLACES],
+    above: &[u8; PLACES],
+    mid: &[u8; PLACES],
     below: &mut [u8; PLACES],
     map: &mut [u8],
 )
-    requires { ⌜ Sides head × (area head ≤ length (now map)) × (2 * edge < head .width) × (y + edge < head .height) × Margins (head .width - 2 * edge) (now above) × Margins (head .width - 2 * edge) (now mid) × Margins (head .width - 2 * edge) (now below) ⌝ }
-    ensures { λ _. ⌜ SweptRow head made edge y (now (above .entry)) (now (above .exit)) (now (mid .entry)) (now (mid .exit)) (now (below .exit)) (now (map .entry)) (now (map .exit)) ⌝ }
+    requires { ⌜ Sides head × (area head ≤ length (now map)) × (2 * edge < head .width) × (y + edge < head .height) × Margins (head .width - 2 * edge) (now below) ⌝ }
+    ensures { λ _. ⌜ SweptRow head made edge y (now (above .entry)) (now (mid .entry)) (now (below .exit)) (now (map .entry)) (now (map .exit)) ⌝ }
 {
     let kind = head.kind;
     let width = head.width as usize;
@@ -120,12 +120,11 @@ fn sweep_row(
     let from = y * width + edge;
     read_row(head, edge, map, y + 1, below);
     sweep_run(made, kind, above, mid, below, map, from, count);
-    buffers::copy_run(mid, above, MARGIN + count);
-    buffers::copy_run(below, mid, MARGIN + count);
 }
 
 // Each cell gets what is made of its window; bytes past the plate stay. With an edge, a map that is 0 one further than the edge
 // from its border: only the cells between the edges are read and written, since all others stay 0.
+// Three rows a turn, so that the arrays change roles and no row is copied.
 pub fn sweep(head: Head, made: Leaf, edge: usize, map: &mut [u8])
     requires { ⌜ Sides head × (area head ≤ length (now map)) × (edge ≤ largestSide) × (1 ≤ edge → Margin head (edge + 1) (now map)) ⌝ }
     ensures { λ _. ⌜ Mapped head (λ c. leaf made (head .kind) (windowOf head (now (map .entry)) c)) (now (map .entry)) (now (map .exit)) ⌝ }
@@ -144,7 +143,17 @@ pub fn sweep(head: Head, made: Leaf, edge: usize, map: &mut [u8])
     read_row(head, edge, map, edge, &mut mid);
     let mut y = edge;
     while y + edge < height {
-        sweep_row(made, head, edge, y, &mut above, &mut mid, &mut below, map);
+        sweep_row(made, head, edge, y, &above, &mid, &mut below, map);
+        y += 1;
+        if height <= y + edge {
+            return;
+        }
+        sweep_row(made, head, edge, y, &mid, &below, &mut above, map);
+        y += 1;
+        if height <= y + edge {
+            return;
+        }
+        sweep_row(made, head, edge, y, &below, &above, &mut mid, map);
         y += 1;
     }
 }

@@ -1,4 +1,5 @@
 -- `sweep` makes a number of each window, row after row: the invariant is `SweptTo` the row reached.
+use mathlib.Core.Path.{_∙_}
 use Prim.Native.Nat.{_-_, _*_}
 use native.Mathlib.Omega.{arith}
 use borrow.Author.Needs.{needs}
@@ -41,22 +42,52 @@ add-loop : tie.Need-add-loop Inv-loop μ-loop
 add-loop c = omega (arith, c .loop .inv .within)
 
 sweep-row-requires : tie.Need-sweep-row-requires Inv-loop μ-loop
-sweep-row-requires c κs = let s = c .before .before .before .before .before .before .before .before .before .before .before .before .before .before in let a = c .before .before .before .before .before .loop .inv in (s .pre .0, omega (arith, s .pre .1, a .same), c .before .before .before .before .before .before .before .before .before .before .if1 .left, c .before .before .before .before .loop-test .taken, a .above-is .margins, a .mid-is .margins, a .below-margins)
+sweep-row-requires c κs = let s = c .before .before .before .before .before .before .before .before .before .before .before .before .before .before in let a = c .before .before .before .before .before .loop .inv in (s .pre .0, omega (arith, s .pre .1, a .same), c .before .before .before .before .before .before .before .before .before .before .if1 .left, c .before .before .before .before .loop-test .taken, a .below-margins)
 
 add-y : tie.Need-add-y Inv-loop μ-loop
 add-y c = omega (arith, c .before .before .before .before .before .before .before .loop-test .taken)
 
-loop-less : tie.Need-loop-less Inv-loop μ-loop
-loop-less c = omega (arith, c .before .before .before .before .before .before .before .loop-test .taken)
-
-loop-again : tie.Need-loop-again Inv-loop μ-loop
-loop-again c = let s = c .before .before .before .before .before .before .before .before .before .before .before .before .before .before .before .before .before in swept-more (s .args .head) (s .args .edge) _ (s .pre .3) (s .args .made) _ _ _ _ _ _ _ _ _ (c .before .before .before .before .before .before .before .before .before .before .before .before .before .if1 .left) (c .before .before .before .before .before .before .before .before .loop .inv) (c .before .before .before .before .before .before .before .loop-test .taken) (c .before .before .sweep-row .ensures)
+add-if3 : tie.Need-add-if3 Inv-loop μ-loop
+add-if3 c = omega (arith, c .before .before .before .before .before .before .before .loop-test .taken)
 
 same-length : tie.Need-same-length Inv-loop μ-loop
-same-length c = c .before .loop .inv .same
+same-length c = c .before .before .before .sweep-row .ensures .map-is .same ∙ c .before .before .before .before .before .before .before .before .before .loop .inv .same
 
 returns-3 : tie.Need-returns-3 Inv-loop μ-loop
-returns-3 c = let s = c .before .before .before .before .before .before .before .before .before .before in swept-all (s .args .head) (s .args .edge) _ (s .pre .3) (s .args .made) _ _ _ _ _ (c .before .before .before .before .before .before .if1 .left) (c .before .loop .inv) (c .loop-test .left)
+returns-3 c = let s = c .before .before .before .before .before .before .before .before .before .before .before .before .before .before .before .before .before .before in let wide = c .before .before .before .before .before .before .before .before .before .before .before .before .before .before .if1 .left in let more = swept-more (s .args .head) (s .args .edge) _ (s .pre .3) (s .args .made) in swept-all (s .args .head) (s .args .edge) _ (s .pre .3) (s .args .made) _ _ _ _ _ wide (more _ _ _ _ _ _ _ wide (c .before .before .before .before .before .before .before .before .before .loop .inv) (c .before .before .before .before .before .before .before .before .loop-test .taken) (c .before .before .before .sweep-row .ensures)) (c .if3 .taken)
+
+sweep-row-requires-2 : tie.Need-sweep-row-requires-2 Inv-loop μ-loop
+sweep-row-requires-2 c κs = let s = c .before .before .before .before .before .before .before .before .before .before .before .before .before .before .before .before .before .before .before .before .before .before in let a = c .before .before .before .before .before .before .before .before .before .before .before .before .before .loop .inv in (s .pre .0, omega (arith, s .pre .1, c .before .before .before .before .before .before .before .sweep-row .ensures .map-is .same, a .same), c .before .before .before .before .before .before .before .before .before .before .before .before .before .before .before .before .before .before .if1 .left, c .before .before .before .before .if3 .left, a .above-is .margins)
+
+add-y-2 : tie.Need-add-y-2 Inv-loop μ-loop
+add-y-2 c = omega (arith, c .before .before .before .before .before .before .before .before .before .before .before .before .before .before .before .before .before .before .before .before .before .before .before .before .before .pre .0 .low, c .before .before .before .before .before .before .before .if3 .left)
+
+add-if4 : tie.Need-add-if4 Inv-loop μ-loop
+add-if4 c = omega (arith, c .before .before .before .before .before .before .before .before .before .before .before .before .before .before .before .before .before .before .before .before .before .before .before .before .before .pre .0 .low, c .before .before .before .before .before .before .before .if3 .left)
+
+same-length-2 : tie.Need-same-length-2 Inv-loop μ-loop
+same-length-2 c = c .before .before .before .sweep-row2 .ensures .map-is .same ∙ c .before .before .before .before .before .before .before .before .before .before .before .sweep-row .ensures .map-is .same ∙ c .before .before .before .before .before .before .before .before .before .before .before .before .before .before .before .before .before .loop .inv .same
+
+returns-4 : tie.Need-returns-4 Inv-loop μ-loop
+returns-4 c = let s = c .before .before .before .before .before .before .before .before .before .before .before .before .before .before .before .before .before .before .before .before .before .before .before .before .before .before in let wide = c .before .before .before .before .before .before .before .before .before .before .before .before .before .before .before .before .before .before .before .before .before .before .if1 .left in let more = swept-more (s .args .head) (s .args .edge) _ (s .pre .3) (s .args .made) in swept-all (s .args .head) (s .args .edge) _ (s .pre .3) (s .args .made) _ _ _ _ _ wide (more _ _ _ _ _ _ _ wide (more _ _ _ _ _ _ _ wide (c .before .before .before .before .before .before .before .before .before .before .before .before .before .before .before .before .before .loop .inv) (c .before .before .before .before .before .before .before .before .before .before .before .before .before .before .before .before .loop-test .taken) (c .before .before .before .before .before .before .before .before .before .before .before .sweep-row .ensures)) (c .before .before .before .before .before .before .before .before .if3 .left) (c .before .before .before .sweep-row2 .ensures)) (c .if4 .taken)
+
+sweep-row-requires-3 : tie.Need-sweep-row-requires-3 Inv-loop μ-loop
+sweep-row-requires-3 c κs = let s = c .before .before .before .before .before .before .before .before .before .before .before .before .before .before .before .before .before .before .before .before .before .before .before .before .before .before .before .before .before .before in let a = c .before .before .before .before .before .before .before .before .before .before .before .before .before .before .before .before .before .before .before .before .before .loop .inv in (s .pre .0, omega (arith, s .pre .1, c .before .before .before .before .before .before .before .sweep-row2 .ensures .map-is .same, c .before .before .before .before .before .before .before .before .before .before .before .before .before .before .before .sweep-row .ensures .map-is .same, a .same), c .before .before .before .before .before .before .before .before .before .before .before .before .before .before .before .before .before .before .before .before .before .before .before .before .before .before .if1 .left, c .before .before .before .before .if4 .left, a .mid-is .margins)
+
+add-y-3 : tie.Need-add-y-3 Inv-loop μ-loop
+add-y-3 c = omega (arith, c .before .before .before .before .before .before .before .before .before .before .before .before .before .before .before .before .before .before .before .before .before .before .before .before .before .before .before .before .before .before .before .before .before .pre .0 .low, c .before .before .before .before .before .before .before .if4 .left)
+
+loop-less : tie.Need-loop-less Inv-loop μ-loop
+loop-less c = omega (arith, c .before .before .before .before .before .before .before .before .before .before .before .before .before .before .before .before .before .before .before .before .before .before .before .loop-test .taken)
+
+loop-again : tie.Need-loop-again Inv-loop μ-loop
+loop-again c = let s = c .before .before .before .before .before .before .before .before .before .before .before .before .before .before .before .before .before .before .before .before .before .before .before .before .before .before .before .before .before .before .before .before .before in let wide = c .before .before .before .before .before .before .before .before .before .before .before .before .before .before .before .before .before .before .before .before .before .before .before .before .before .before .before .before .before .if1 .left in let more = swept-more (s .args .head) (s .args .edge) _ (s .pre .3) (s .args .made) in more _ _ _ _ _ _ _ wide (more _ _ _ _ _ _ _ wide (more _ _ _ _ _ _ _ wide (c .before .before .before .before .before .before .before .before .before .before .before .before .before .before .before .before .before .before .before .before .before .before .before .before .loop .inv) (c .before .before .before .before .before .before .before .before .before .before .before .before .before .before .before .before .before .before .before .before .before .before .before .loop-test .taken) (c .before .before .before .before .before .before .before .before .before .before .before .before .before .before .before .before .before .before .sweep-row .ensures)) (c .before .before .before .before .before .before .before .before .before .before .before .before .before .before .before .if3 .left) (c .before .before .before .before .before .before .before .before .before .before .sweep-row2 .ensures)) (c .before .before .before .before .before .before .before .if4 .left) (c .before .before .sweep-row3 .ensures)
+
+same-length-3 : tie.Need-same-length-3 Inv-loop μ-loop
+same-length-3 c = c .before .loop .inv .same
+
+returns-5 : tie.Need-returns-5 Inv-loop μ-loop
+returns-5 c = let s = c .before .before .before .before .before .before .before .before .before .before in let wide = c .before .before .before .before .before .before .if1 .left in swept-all (s .args .head) (s .args .edge) _ (s .pre .3) (s .args .made) _ _ _ _ _ wide (c .before .loop .inv) (c .loop-test .left)
 
 pub sweep-spec : {M : Type 1} → statement M
 sweep-spec =
@@ -75,7 +106,17 @@ sweep-spec =
     add-loop
     sweep-row-requires
     add-y
+    add-if3
+    same-length
+    returns-3
+    sweep-row-requires-2
+    add-y-2
+    add-if4
+    same-length-2
+    returns-4
+    sweep-row-requires-3
+    add-y-3
     loop-less
     loop-again
-    same-length
-    returns-3)
+    same-length-3
+    returns-5)
