@@ -359,47 +359,30 @@ pub struct HaruMotions {
     pub sink: f64,
 }
 
+// Millimetres that no refusal goes with.
+fn moved(changed: u32, width: f64, x: f64, y: f64, sink: f64) -> HaruMotions
+    ensures { λ r. ⌜ r ≡ record { number = 0; changed = changed; place = 0; width = width; x = x; y = y; sink = sink } ⌝ }
+{
+    HaruMotions {
+        number: 0,
+        changed,
+        place: 0,
+        width,
+        x,
+        y,
+        sink,
+    }
+}
+
 // The millimetres of a motion in their places; a stay and the places that it does not fill have 0.
 fn of_motion(motion: Motion) -> HaruMotions
     ensures { λ r. ⌜ r ≡ ofMotion motion ⌝ }
 {
     match motion {
-        Motion::Change(width) => HaruMotions {
-            number: 0,
-            changed: 1,
-            place: 0,
-            width,
-            x: 0.0,
-            y: 0.0,
-            sink: 0.0,
-        },
-        Motion::Stay => HaruMotions {
-            number: 0,
-            changed: 0,
-            place: 0,
-            width: 0.0,
-            x: 0.0,
-            y: 0.0,
-            sink: 0.0,
-        },
-        Motion::Travel(x, y) => HaruMotions {
-            number: 0,
-            changed: 0,
-            place: 0,
-            width: 0.0,
-            x,
-            y,
-            sink: 0.0,
-        },
-        Motion::Sink(sink) => HaruMotions {
-            number: 0,
-            changed: 0,
-            place: 0,
-            width: 0.0,
-            x: 0.0,
-            y: 0.0,
-            sink,
-        },
+        Motion::Change(width) => moved(1, width, 0.0, 0.0, 0.0),
+        Motion::Stay => moved(0, 0.0, 0.0, 0.0, 0.0),
+        Motion::Travel(x, y) => moved(0, 0.0, x, y, 0.0),
+        Motion::Sink(sink) => moved(0, 0.0, 0.0, 0.0, sink),
     }
 }
 
@@ -413,15 +396,7 @@ fn of_three(motions: Motions) -> HaruMotions
     let change = of_motion(first);
     let travel = of_motion(second);
     let sink = of_motion(third);
-    HaruMotions {
-        number: 0,
-        changed: change.changed,
-        place: 0,
-        width: change.width,
-        x: travel.x,
-        y: travel.y,
-        sink: sink.sink,
-    }
+    moved(change.changed, change.width, travel.x, travel.y, sink.sink)
 }
 
 fn of_motions(answer: MotionAnswer) -> HaruMotions

@@ -1,2 +1,3 @@
 pub mod Entries
 pub mod Table
+pub mod Literals

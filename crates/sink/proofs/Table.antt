@@ -49,8 +49,3 @@ rises d h = ltb→lt (getD table d 0) (getD table (suc d) 0) (go (ltb d 255) (bo
     go : (b : Bool) → b ≡ true → T (cond b (ltb (getD table d 0) (getD table (suc d) 0)) true) → T (ltb (getD table d 0) (getD table (suc d) 0))
     go true e t = t
     go mathlib.Core.Bool.false e t = let z : _≡_ {A = ℕ} 0 1 = cc in absurd (omega arith)
-
--- the code's 1000.0
-pub literal-1000 : ofBits binary64 0x408f_4000_0000_0000 ≡ whole 1000
-unfolding ofBits ofInt
-literal-1000 = refl

@@ -1,7 +1,7 @@
 -- `of_motions` tells the motions or the refusal.
 use mathlib.Core.Path.{sym, ap, _∙_}
 use Rattle.capi.specs.Jobs.{ofMotions}
-use Rattle.capi.proofs.Literals.{literal-0}
+use Rattle.sink.proofs.Literals.{literal-0}
 use borrow.Author.Needs.{needs}
 use Rattle.capi.proofs.of_motions.Statement.{statement}
 use Rattle.capi.proofs.of_motions.Tie as tie

@@ -1,6 +1,7 @@
 -- `in_range` tries the three ranges, one after the other.
 use mathlib.Core.Path.{sym, _∙_}
-use Rattle.motion.proofs.Literals.{literal-sixteenth, literal-4, literal-0, literal-1000}
+use Rattle.sink.proofs.Literals.{literal-4, literal-0, literal-1000}
+use Rattle.motion.proofs.Literals.{literal-sixteenth}
 use borrow.Author.Needs.{needs}
 use Rattle.motion.proofs.in_range.Statement.{statement}
 use Rattle.motion.proofs.in_range.Tie as tie

@@ -1,6 +1,6 @@
 -- `sink_of` divides the entry, as a float, by 1000.
 use borrow.Author.Needs.{needs}
-use Rattle.sink.proofs.Table.{literal-1000}
+use Rattle.sink.proofs.Literals.{literal-1000}
 use Rattle.sink.proofs.sink_of.Statement.{statement}
 use Rattle.sink.proofs.sink_of.Tie as tie
 
