@@ -1,12 +1,14 @@
--- Laws of marks: nothing yet, one more, one stretch after another, and where the nine bytes about a place are a cell's window.
+-- Laws of marks: nothing yet, one more, one stretch after another, stretches without a mark, and where the nine bytes about a place are a cell's window.
 use mathlib.Core.Path.{_≡_, ap, _∙_, subst}
 use mathlib.Core.Bool.{Bool, true, false, cond}
 use mathlib.Core.List.{List}
 use Prim.Native.Nat.{ℕ, zero, suc, _+_, _*_, _-_, _≤_, _<_}
 use native.Mathlib.Omega.{arith}
+use native.Mathlib.Decide.{decLe}
 use native.Mathlib.Nat.{suc-mul, one-mul, mul-le-mul-right}
 use native.Mathlib.Numerals.{add-one}
 use borrow.Author.Tests.{le-ltb}
+use lib.Bits.{bitOr, or-add-and, and-le-l, and-le-r}
 use lib.Dec.{ltb}
 use lib.ListN.{length, getD, set}
 use Rattle.geometry.specs.declared.Head.{Head}
@@ -16,7 +18,7 @@ use Rattle.theory.specs.Erosion.{highestNear}
 use Rattle.window.specs.Windows.{windowIn, windowMax}
 use Rattle.window.proofs.Windows.{window-interior, window-max-near}
 use Rattle.buffers.proofs.Fill.{filled-none, filled-more, filled-as, filled-on}
-use Rattle.marks.specs.Marks.{markOf, markAt, markNear, tally, Marked}
+use Rattle.marks.specs.Marks.{markOf, markAt, markNear, tally, Marked, Unmarked}
 
 -- ---- one mark
 
@@ -92,6 +94,43 @@ marked-on f from mid to old half new r s a b m n =
       count = omega (arith, m .count, n .count);
       few = omega (arith, m .few, n .few);
     }
+
+-- ---- stretches without a mark
+
+or-none : (a b : ℕ) → bitOr a b ≡ 0 → (a ≡ 0) × (b ≡ 0)
+or-none a b z = let e = or-add-and a b in let f = and-le-l a b in let g = and-le-r a b in (omega arith, omega arith)
+
+module _ (marks : List ℕ) (from : ℕ) where
+  pub unmarked-none : Unmarked marks from from
+  unmarked-none = record { none = λ x a b. absurd (omega arith) }
+
+  -- one place more
+  pub unmarked-more : (to : ℕ) → Unmarked marks from to → getD marks to 0 ≡ 0 → Unmarked marks from (to + 1)
+  unmarked-more to u e = record { none = λ x a b. go x a b (decLe to x) }
+    where
+      go : (x : ℕ) → from ≤ x → x < to + 1 → Dec (to ≤ x) → getD marks x 0 ≡ 0
+      go x a b (yes d) = let k : x ≡ to = omega arith in rw k e
+      go x a b (no d) = u .none x a (omega arith)
+
+  -- a stretch, and then the next one
+  pub unmarked-on : (mid to : ℕ) → Unmarked marks from mid → Unmarked marks mid to → Unmarked marks from to
+  unmarked-on mid to u v = record { none = λ x a b. go x a b (decLe mid x) }
+    where
+      go : (x : ℕ) → from ≤ x → x < to → Dec (mid ≤ x) → getD marks x 0 ≡ 0
+      go x a b (yes d) = v .none x d b
+      go x a b (no d) = u .none x a (omega arith)
+
+  -- a block, place by place: where all its marks together are 0, none is marked
+  pub block-none : (all : ℕ) → all ≡ 0 → Unmarked marks from (from + 0)
+  block-none all z = record { none = λ x a b. absurd (omega arith) }
+
+  pub block-more : (i all : ℕ) → (all ≡ 0 → Unmarked marks from (from + i)) → bitOr all (getD marks (from + i) 0) ≡ 0 → Unmarked marks from (from + (i + 1))
+  block-more i all u z =
+      let k : from + (i + 1) ≡ from + i + 1 = omega arith in
+      let o = or-none all (getD marks (from + i) 0) z in rw k (unmarked-more (from + i) (u (o .0)) (o .1))
+
+  pub block-end : (i n all : ℕ) → i ≤ n → n ≤ i → (all ≡ 0 → Unmarked marks from (from + i)) → all ≡ 0 → Unmarked marks from (from + n)
+  block-end i n all a b u z = let k : i ≡ n = omega arith in subst (λ (j : ℕ). Unmarked marks from (from + j)) k (u z)
 
 -- ---- one row
 

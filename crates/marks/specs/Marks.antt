@@ -1,8 +1,8 @@
--- Marks of one row or one run of places: where a residue of two maps is above 0, and how many there are.
+-- Marks of one row or one run of places: where a residue of two maps is above 0, how many there are, and which is next.
 use mathlib.Core.Path.{_≡_}
 use mathlib.Core.Bool.{cond}
 use mathlib.Core.List.{List}
-use Prim.Native.Nat.{ℕ, zero, suc, _+_, _-_, _*_, _≤_}
+use Prim.Native.Nat.{ℕ, zero, suc, _+_, _-_, _*_, _≤_, _<_}
 use lib.Dec.{ltb}
 use lib.ListN.{getD}
 use Rattle.geometry.specs.declared.Kind.{Kind}
@@ -16,6 +16,10 @@ use Rattle.buffers.specs.Fill.{Filled}
 -- the places of an array of marks, more than a row or a run has
 abbrev pub places : ℕ
 places = 256
+
+-- the places passed over at once
+abbrev pub block : ℕ
+block = 8
 
 -- 1 where b taken off a leaves something, else 0
 abbrev pub markOf : ℕ → ℕ → ℕ
@@ -39,3 +43,14 @@ pub record Marked (f : ℕ → ℕ) (from to : ℕ) (old new : List ℕ) (r : �
   pub filled : Filled f from to old new
   pub count : r + tally f from ≡ tally f to
   pub few : r ≤ to - from
+
+-- no place from one up to another is marked
+pub record Unmarked (marks : List ℕ) (from to : ℕ) : Type 0 where
+  pub none : (x : ℕ) → from ≤ x → x < to → getD marks x 0 ≡ 0
+
+-- r is the first marked place from one on, or `to` if none before it is marked
+pub record NextMark (marks : List ℕ) (from to r : ℕ) : Type 0 where
+  pub onward : from ≤ r
+  pub within : r ≤ to
+  pub passed : Unmarked marks from r
+  pub marked : r < to → getD marks r 0 ≡ 0 → ⊥

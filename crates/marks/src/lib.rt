@@ -1,4 +1,4 @@
-// Marks of one row, or of one run of places, of two erosions: where a cell has a residue above 0, and how many such cells there are.
+// Marks of one row, or of one run of places, of two erosions: where a cell has a residue above 0, how many such cells there are, and which is next.
 use geometry::Head;
 use geometry::Kind;
 ghost use mathlib.Core.Path.{_≡_};
@@ -6,13 +6,16 @@ ghost use Prim.Native.Nat.{_+_, _*_, _≤_, _<_};
 ghost use lib.ListN.{length};
 ghost use Rattle.geometry.specs.Plate.{area};
 ghost use Rattle.refusal.specs.Refusals.{largestSide};
-ghost use Rattle.marks.specs.Marks.{places, markOf, markAt, markNear, Marked};
+ghost use Rattle.marks.specs.Marks.{places, block, markOf, markAt, markNear, Marked, Unmarked, NextMark};
 
 // The marks of a row or a run are held in an array of this length: no plate is wider.
 pub const PLACES: usize = 256;
 
 // The places marked at once where rows need not be told apart: a multiple of 16, and few enough that their count is a byte.
 pub const RUN: usize = 240;
+
+// The places passed over at once where none of them is marked.
+const BLOCK: usize = 8;
 
 // 1 where the second number taken off the first leaves something, else 0.
 fn mark(a: u8, b: u8) -> u8
@@ -102,4 +105,48 @@ pub fn mark_row(head: Head, prev: &[u8], cur: &[u8], row: u16, marks: &mut [u8; 
     let inner = mark_run(kind, prev, cur, wide, start, 1, wide - 1, marks);
     let last = mark_cells(head, prev, cur, row, width - 1, width, marks);
     first + inner + last
+}
+
+// All marks of a block in one byte, which is 0 only if none is marked.
+fn block_marks(marks: &[u8; PLACES], from: usize) -> u8
+    requires { ⌜ (from + block ≤ places) × (length (now marks) ≡ places) ⌝ }
+    ensures { λ r. ⌜ (r ≡ 0 → Unmarked (now (marks .entry)) from (from + block)) ⌝ }
+{
+    let mut all = 0u8;
+    let mut i = 0;
+    while i < BLOCK {
+        all = all | marks[from + i];
+        i += 1;
+    }
+    all
+}
+
+// Passes over blocks without a mark, up to one that has a mark or is not whole.
+fn skip_blocks(marks: &[u8; PLACES], from: usize, to: usize) -> usize
+    requires { ⌜ (from ≤ to) × (to ≤ places) × (length (now marks) ≡ places) ⌝ }
+    ensures { λ r. ⌜ (from ≤ r) × (r ≤ to) × Unmarked (now (marks .entry)) from r ⌝ }
+{
+    let mut x = from;
+    while BLOCK <= to - x {
+        if block_marks(marks, x) != 0 {
+            return x;
+        }
+        x += BLOCK;
+    }
+    x
+}
+
+// The first marked place from one on, or `to` if none before it is marked.
+pub fn next_mark(marks: &[u8; PLACES], from: usize, to: usize) -> usize
+    requires { ⌜ (from ≤ to) × (to ≤ places) × (length (now marks) ≡ places) ⌝ }
+    ensures { λ r. ⌜ NextMark (now (marks .entry)) from to r ⌝ }
+{
+    let mut x = skip_blocks(marks, from, to);
+    while x < to {
+        if marks[x] != 0 {
+            return x;
+        }
+        x += 1;
+    }
+    x
 }

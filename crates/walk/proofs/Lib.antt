@@ -1,3 +1,4 @@
 pub mod Plunges
+pub mod Marks
 pub mod Climbs
 pub mod Runs

@@ -29,7 +29,7 @@ use Rattle.buffers.specs.Margin.{Margin}
 use Rattle.climb.specs.Pairs.{Turn, Pair}
 use Rattle.climb.proofs.Pairs.{mod-cases}
 use Rattle.climb.proofs.Scores.{turn-residue}
-use Rattle.fields.specs.Fields.{plungeField, plungeFields}
+use Rattle.fields.specs.Fields.{plungeFields}
 use Rattle.fields.proofs.Encoding.{plungeFields-length}
 use Rattle.marks.specs.Marks.{markOf, markAt, tally, Marked}
 use Rattle.marks.proofs.Marking.{at-small, at-zero}
@@ -130,23 +130,6 @@ sent-as pass file at qs os old new t e s = subst (λ (l : List Plunge). Sent pas
 
 pub room-as : (pass : Pass) (at : ℕ) (qs os : List Plunge) (old : List ℕ) → qs ≡ os → Room pass (at + 7 * length qs) old → Room pass (at + 7 * length os) old
 room-as pass at qs os old e h = subst (λ (l : List Plunge). Room pass (at + 7 * length l) old) e h
-
--- a plunge that is not marked, and one that is
-module _ (pass : Pass) (file : List ℕ) (at mark : ℕ) (q : Plunge) (old : List ℕ) where
-  on-none : mark ≡ 0 → onMark mark q ≡ []
-  on-none e = rw (eq-eqb _ _ e)
-
-  on-one : (mark ≡ 0 → ⊥) → onMark mark q ≡ q ∷ []
-  on-one d = rw (ne-eqb _ _ d)
-
-  pub unmarked-sent : mark ≡ 0 → Sent pass file at (plungeFields (onMark mark q)) old old (record { at = at; like = true })
-  unmarked-sent e = sent-as pass file at [] (onMark mark q) old old _ (sym (on-none e)) (sent-none pass file at old)
-
-  pub marked-room : (mark ≡ 0 → ⊥) → Room pass (at + 7 * length (onMark mark q)) old → Room pass (at + 7) old
-  marked-room d h = room-as pass at (onMark mark q) (q ∷ []) old (on-one d) h
-
-  pub marked-sent : (mark ≡ 0 → ⊥) → (new : List ℕ) (t : Trail) → Sent pass file at (plungeField q) old new t → Sent pass file at (plungeFields (onMark mark q)) old new t
-  marked-sent d new t s = sent-as pass file at (q ∷ []) (onMark mark q) old new t (sym (on-one d)) s
 
 -- ---- one level
 

@@ -15,15 +15,14 @@ ghost use Rattle.theory.specs.Listing.{listing};
 ghost use Rattle.refusal.specs.Refusals.{largestSide, largestRung};
 ghost use Rattle.buffers.specs.Margin.{Margin};
 ghost use Rattle.climb.specs.Pairs.{Kept};
-ghost use Rattle.fields.specs.Fields.{plungeFields};
+ghost use Rattle.fields.specs.Fields.{plungeField, plungeFields};
 ghost use Rattle.marks.specs.Marks.{places};
 ghost use Rattle.trail.specs.Sent.{Sent, Room, Fits};
-ghost use Rattle.walk.specs.Rows.{counting, placed, onMark, marksTo, rowPlunges, placePlunge, levelPlunges, pairPlunges};
+ghost use Rattle.walk.specs.Rows.{counting, placed, marksTo, rowPlunges, placePlunge, levelPlunges, pairPlunges};
 
-// Sends the plunge of a place if it is marked: place n is column n % width of row n / width.
-fn send_marked(
+// Sends the plunge of a place: place n is column n % width of row n / width.
+fn send_place(
     pass: Pass,
-    mark: u8,
     reach: Reach,
     width: usize,
     n: usize,
@@ -32,12 +31,9 @@ fn send_marked(
     out: &mut [u8],
     at: usize,
 ) -> Trail
-    requires { ⌜ (1 ≤ width) × (width ≤ largestSide) × (n < largestSide * width) × Fits (at + 7) × Room pass (at + 7 * length (onMark mark (placed width (reach .0) n depth))) (now out) ⌝ }
-    ensures { λ r. ⌜ Sent pass (now (file .entry)) at (plungeFields (onMark mark (placed width (reach .0) n depth))) (now (out .entry)) (now (out .exit)) r ⌝ }
+    requires { ⌜ (1 ≤ width) × (width ≤ largestSide) × (n < largestSide * width) × Fits (at + 7) × Room pass (at + 7) (now out) ⌝ }
+    ensures { λ r. ⌜ Sent pass (now (file .entry)) at (plungeField (placed width (reach .0) n depth)) (now (out .entry)) (now (out .exit)) r ⌝ }
 {
-    if mark == 0 {
-        return Trail { at, like: true };
-    }
     let x = (n % width) as u16;
     let y = (n / width) as u16;
     let q = Plunge {
@@ -49,7 +45,7 @@ fn send_marked(
     trail::send(pass, file, out, at, q)
 }
 
-// Sends the marked ones of some places, up to the first that is unlike.
+// Sends the marked ones of some places, from mark to mark, up to the first that is unlike.
 fn send_marks(
     pass: Pass,
     reach: Reach,
@@ -66,15 +62,15 @@ fn send_marks(
     ensures { λ r. ⌜ Sent pass (now (file .entry)) at (plungeFields (marksTo number width (now (prev .entry)) (reach .0) start (now (flags .entry)))) (now (out .entry)) (now (out .exit)) r ⌝ }
 {
     let mut place = at;
-    let mut i = 0;
+    let mut i = marks::next_mark(flags, 0, number);
     while i < number {
         let n = start + i;
-        let next = send_marked(pass, flags[i], reach, width, n, prev[n], file, out, place);
+        let next = send_place(pass, reach, width, n, prev[n], file, out, place);
         if !next.like {
             return next;
         }
         place = next.at;
-        i += 1;
+        i = marks::next_mark(flags, i + 1, number);
     }
     Trail {
         at: place,

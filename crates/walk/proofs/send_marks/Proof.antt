@@ -1,58 +1,59 @@
--- `send_marks` sends place after place: the invariant is that the places so far are sent and were alike.
+-- `send_marks` goes from mark to mark: the invariant is that the places so far are sent and were alike, and that the place reached is marked or the end.
 use mathlib.Core.Path.{_≡_, refl}
-use Prim.Native.Nat.{_+_, _-_, _≤_}
+use Prim.Native.Nat.{_-_}
 use native.Mathlib.Omega.{arith}
-use native.Mathlib.Nat.{mul-one}
 use borrow.Author.Tests.{not-true, not-false}
-use lib.ListN.{length, getD}
-use Rattle.trail.proofs.Passes.{Sending, sending-none, sending-room, sending-fits, sending-more, sending-stops, sending-end}
-use Rattle.walk.specs.Rows.{markedPlace}
-use Rattle.walk.proofs.Plunges.{mark-few}
+use lib.ListN.{length}
+use Rattle.walk.proofs.Marks.{AtMark, mark-first, mark-fits, mark-room, mark-more, mark-stops, mark-end}
 use Rattle.walk.proofs.send_marks.Statement.{statement}
 use Rattle.walk.proofs.send_marks.Tie as tie
-use Rattle.walk.proofs.send_marked.Reads as send-marked-reads
+use Rattle.marks.proofs.next_mark.Reads as next-mark-reads
+use Rattle.walk.proofs.send_place.Reads as send-place-reads
 
 abbrev Inv-loop : tie.InvT-loop
-Inv-loop pass reach width start number prev flags file out₀ at place₀ i₀ out place i = (i ≤ number) × (length out ≡ length out₀) × Sending pass file (λ j. markedPlace width prev (reach .0) (start + j) (getD flags j 0)) at out₀ i out place
+Inv-loop pass reach width start number prev flags file out₀ at place₀ i₀ out place i = (length out ≡ length out₀) × AtMark pass file at out₀ width prev (reach .0) start flags number i out place
 
 abbrev μ-loop : tie.MeasureT-loop
 μ-loop pass reach width start number prev flags file out₀ at place₀ i₀ out place i = number - i
 
+next-mark-requires : tie.Need-next-mark-requires Inv-loop μ-loop
+next-mark-requires c κs = (omega arith, omega arith, c .before .before .before .pre .5)
+
 loop-holds : tie.Need-loop-holds Inv-loop μ-loop
-loop-holds c = (omega arith, refl, sending-none _ _ _ _ _)
+loop-holds c = (refl, mark-first _ _ _ _ _ _ _ _ _ _ _ (c .next-mark .ensures))
 
 add-n : tie.Need-add-n Inv-loop μ-loop
 add-n c = omega arith
 
-element-copy-out-send-marked : tie.Need-element-copy-out-send-marked Inv-loop μ-loop
-element-copy-out-send-marked c = omega arith
+shared-slice-read-send-place : tie.Need-shared-slice-read-send-place Inv-loop μ-loop
+shared-slice-read-send-place c = omega arith
 
-shared-slice-read-send-marked : tie.Need-shared-slice-read-send-marked Inv-loop μ-loop
-shared-slice-read-send-marked c = omega arith
-
-send-marked-requires : tie.Need-send-marked-requires Inv-loop μ-loop
-send-marked-requires c κs = (c .before .before .before .before .before .before .before .before .pre .0, c .before .before .before .before .before .before .before .before .pre .1, omega arith, omega (arith, sending-fits _ _ _ _ _ _ _ _ (c .before .before .before .before .loop .inv .2) 1 (c .before .before .before .before .before .before .before .before .args .number) (λ j. mark-few (getD (c .before .before .before .before .before .before .before .before .args .flags .now) j 0) _) (omega arith), mul-one (c .before .before .before .before .before .before .before .before .args .number)), sending-room _ _ _ _ _ _ _ _ (c .before .before .before .before .loop .inv .2) (c .before .before .before .before .before .before .before .before .args .number) (c .before .before .before .before .before .before .before .before .pre .7) (omega arith))
+send-place-requires : tie.Need-send-place-requires Inv-loop μ-loop
+send-place-requires c κs = (c .before .before .before .before .before .before .before .before .pre .0, c .before .before .before .before .before .before .before .before .pre .1, omega arith, omega (arith, mark-fits _ _ _ _ _ _ _ _ _ _ _ _ _ (c .before .before .before .loop .inv .1) (c .before .before .loop-test .taken)), mark-room _ _ _ _ _ _ _ _ _ _ _ _ _ (c .before .before .before .loop .inv .1) (c .before .before .before .before .before .before .before .before .pre .7) (c .before .before .loop-test .taken))
 
 same-length : tie.Need-same-length Inv-loop μ-loop
 same-length c = omega arith
 
 returns : tie.Need-returns Inv-loop μ-loop
-returns c = sending-stops _ _ _ _ _ _ _ _ (c .before .before .before .before .before .before .before .before .before .loop .inv .2) (c .before .before .before .before .before .before .before .before .before .before .before .before .before .args .number) (c .before .before .before .before .before .before .before .before .before .before .before .before .before .pre .7) _ _ (c .before .before .before .before .send-marked .ensures) (omega arith) (not-true _ (c .if1 .taken))
+returns c = mark-stops _ _ _ _ _ _ _ _ _ _ _ _ _ (c .before .before .before .before .before .before .before .before .loop .inv .1) (c .before .before .before .before .before .before .before .before .before .before .before .before .before .pre .7) (c .before .before .before .before .before .before .before .loop-test .taken) _ _ (c .before .before .before .before .send-place .ensures) (not-true _ (c .if1 .taken))
 
-add-i : tie.Need-add-i Inv-loop μ-loop
-add-i c = omega arith
+add-next-mark : tie.Need-add-next-mark Inv-loop μ-loop
+add-next-mark c = omega arith
+
+next-mark-requires-2 : tie.Need-next-mark-requires-2 Inv-loop μ-loop
+next-mark-requires-2 c κs = (omega arith, omega arith, c .before .before .before .before .before .before .before .before .before .before .before .before .before .pre .5)
 
 loop-less : tie.Need-loop-less Inv-loop μ-loop
 loop-less c = omega arith
 
 loop-again : tie.Need-loop-again Inv-loop μ-loop
-loop-again c = (omega arith, omega arith, sending-more _ _ _ _ _ _ _ _ (c .before .before .before .before .before .before .before .before .before .loop .inv .2) (c .before .before .before .before .before .before .before .before .before .before .before .before .before .args .number) (c .before .before .before .before .before .before .before .before .before .before .before .before .before .pre .7) _ _ (c .before .before .before .before .send-marked .ensures) (omega arith) (not-false _ (c .if1 .left)))
+loop-again c = (omega arith, mark-more _ _ _ _ _ _ _ _ _ _ _ _ _ (c .before .before .before .before .before .before .before .before .before .loop .inv .1) (c .before .before .before .before .before .before .before .before .before .before .before .before .before .before .pre .7) (c .before .before .before .before .before .before .before .before .loop-test .taken) _ _ (c .before .before .before .before .before .send-place .ensures) (not-false _ (c .before .if1 .left)) _ (c .next-mark2 .ensures))
 
 same-length-2 : tie.Need-same-length-2 Inv-loop μ-loop
 same-length-2 c = omega arith
 
 returns-2 : tie.Need-returns-2 Inv-loop μ-loop
-returns-2 c = sending-end _ _ _ _ _ _ _ _ (c .before .loop .inv .2) (c .before .before .before .before .before .args .number) (omega arith) (λ j a b. absurd (omega arith))
+returns-2 c = mark-end _ _ _ _ _ _ _ _ _ _ _ _ _ (c .before .loop .inv .1) (c .loop-test .left)
 
 pub send-marks-spec : {M : Type 1} → statement M
 send-marks-spec =
@@ -60,14 +61,15 @@ send-marks-spec =
     (tie.spec
     Inv-loop
     μ-loop
+    next-mark-requires
     loop-holds
     add-n
-    element-copy-out-send-marked
-    shared-slice-read-send-marked
-    send-marked-requires
+    shared-slice-read-send-place
+    send-place-requires
     same-length
     returns
-    add-i
+    add-next-mark
+    next-mark-requires-2
     loop-less
     loop-again
     same-length-2
