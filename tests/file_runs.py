@@ -16,14 +16,11 @@ How each answer is computed (cells off the plate have depth 0 throughout):
   reading  field by field, as the table of refusals says.
   tidying  drawing, then listing. The check compares the bytes with the tidied file's.
 """
-import os
 import sys
 
-HERE = os.path.dirname(os.path.abspath(__file__))
-CRATES = os.path.join(HERE, "..", "crates")
+from records import COLUMNS, CONSTANT, DOME, LITERAL, NOISE, patterned, stored
 
 READ, DRAW, LIST, TIDY, CHECK, CHAIN, REPEAT, EACH = range(1, 9)
-LITERAL, CONSTANT, NOISE, COLUMNS, DOME = range(5)
 LAST_RUNG = 120
 LARGEST_REACH = 119
 SMALL = 100
@@ -299,21 +296,7 @@ def each_text(data, r):
 
 def made(r):
     """The bytes of a record's relief."""
-    w, h, n, seed = r["w"], r["h"], r["source"], r["seed"]
-    if r["pattern"] == LITERAL:
-        return list(r["literal"])
-    if r["pattern"] == CONSTANT:
-        return [seed] * n
-    if r["pattern"] == NOISE:
-        state, out = seed, []
-        for _ in range(n):
-            state = (state * 1103 + 12345) % 65536
-            out.append(state // 256)
-        return out
-    if r["pattern"] == COLUMNS:
-        return [seed if i % w < 13 else 0 for i in range(n)]
-    cells = ((i % w, i // w) for i in range(n))
-    return [min(255, x + 1, y + 1, w - x, h - y) if y < h else 0 for x, y in cells]
+    return patterned(r["pattern"], r["seed"], r["w"], r["h"], r["source"], r["literal"])
 
 
 def packed(r):
@@ -647,31 +630,17 @@ def large_files():
 
 # ---- the files
 
-def stored(crate, tries):
+def held(crate, tries):
     del RECORDS[:]
     for some in tries:
         some()
-    stdin = b"".join(map(packed, RECORDS))
-    stdout = "".join(map(printed, RECORDS)).encode()
-    assert len(stdin) <= 65536
-    differing = 0
-    for name, content in (("stdin", stdin), ("stdout", stdout)):
-        path = os.path.join(CRATES, crate, name)
-        if "--check" in sys.argv[1:]:
-            if open(path, "rb").read() != content:
-                print(f"{crate}: {name} differs")
-                differing = 1
-        else:
-            open(path, "wb").write(content)
-    print(f"{crate}: {len(RECORDS)} records, {len(stdin)} bytes in, {len(stdout)} bytes out")
-    return differing
+    return stored(crate, RECORDS, packed, printed)
 
 
 def main():
     small = [blocks, typed_lists, random_lists, small_plates, cuts, faults, pairs, reaches, outputs, work, unlike, narrow]
     large = [middle_plates, large_plates, large_refusals, large_files]
-    differing = [stored("file_runs", small), stored("file_plates", large)]
-    sys.exit(max(differing))
+    sys.exit(max(held("file_runs", small), held("file_plates", large)))
 
 
 if __name__ == "__main__":

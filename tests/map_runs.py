@@ -23,14 +23,11 @@ How each number is computed (cells off the plate have depth 0 throughout):
              highest number to the lowest, where a neighbour gets one less.
 Both ways are computed and compared on the small plates.
 """
-import os
 import sys
 
-HERE = os.path.dirname(os.path.abspath(__file__))
-CRATES = os.path.join(HERE, "..", "crates")
+from records import COLUMNS, CONSTANT, DOME, LITERAL, NOISE, patterned, stored
 
 CELL, CLEARANCE, AXIS, BACK, RUNG, RESIDUE, LARGEST, SUM, VOLUME = range(1, 10)
-LITERAL, CONSTANT, NOISE, COLUMNS, DOME = range(5)
 UNTOUCHED = 170
 LAST_RUNG = 120
 
@@ -200,22 +197,7 @@ def back(kind, w, h, numbers):
 
 def made(r):
     """The bytes of a record's relief buffer."""
-    w, h, n, seed = r["w"], r["h"], r["relief"], r["seed"]
-    if r["pattern"] == LITERAL:
-        assert len(r["literal"]) == n
-        return list(r["literal"])
-    if r["pattern"] == CONSTANT:
-        return [seed] * n
-    if r["pattern"] == NOISE:
-        state, out = seed, []
-        for _ in range(n):
-            state = (state * 1103 + 12345) % 65536
-            out.append(state // 256)
-        return out
-    if r["pattern"] == COLUMNS:
-        return [seed if i % w < 13 else 0 for i in range(n)]
-    cells = ((i % w, i // w) for i in range(n))
-    return [min(255, x + 1, y + 1, w - x, h - y) if y < h else 0 for x, y in cells]
+    return patterned(r["pattern"], r["seed"], r["w"], r["h"], r["relief"], r.get("literal"))
 
 
 def packed(r):
@@ -434,31 +416,17 @@ def refusals():
         add(VOLUME, kind, w, h, relief=relief)
 
 
-def held(crate, parts, check):
-    """Writes a program's stdin and stdout, or compares them; whether one differs."""
+def held(crate, parts):
     RECORDS.clear()
     for part in parts:
         part()
-    stdin = b"".join(map(packed, RECORDS))
-    stdout = "".join(map(printed, RECORDS)).encode()
-    assert len(stdin) < 65536
-    differing = False
-    for name, content in (("stdin", stdin), ("stdout", stdout)):
-        path = os.path.join(CRATES, crate, name)
-        if not check:
-            open(path, "wb").write(content)
-        elif open(path, "rb").read() != content:
-            print(f"{crate}: {name} differs")
-            differing = True
-    print(f"{crate}: {len(RECORDS)} records, {len(stdin)} bytes in, {len(stdout)} bytes out")
-    return differing
+    return stored(crate, RECORDS, packed, printed)
 
 
 def main():
-    check = "--check" in sys.argv[1:]
-    differing = held("map_runs", (blocks, small_plates, refusals), check)
+    differing = held("map_runs", (blocks, small_plates, refusals))
     if "--small" not in sys.argv[1:]:
-        differing |= held("plate_runs", (long_plates, large_plates), check)
+        differing |= held("plate_runs", (long_plates, large_plates))
     sys.exit(int(differing))
 
 

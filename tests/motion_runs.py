@@ -8,15 +8,13 @@ Its author had read the library's source, so it is another computation and not a
 Numbers are fractions, rounded to a float exactly where document 01 says 'rounded'; a fraction becomes the nearest float, the even one of two.
 Files are read as tests/file_runs.py reads them.
 """
-import os
 import struct
 import sys
 from fractions import Fraction
 
 sys.dont_write_bytecode = True
 from file_runs import EXAMPLE, Refused, end_of, field, file_of, read
-
-CRATE = os.path.join(os.path.dirname(os.path.abspath(__file__)), "..", "crates", "motion_runs")
+from records import stored
 
 INFINITY, MINUS_INFINITY = 0x7FF << 52, 0xFFF << 52
 NANS = [INFINITY + 1, INFINITY + (1 << 51), MINUS_INFINITY + 1, MINUS_INFINITY + (1 << 51), 2 ** 63 - 1, 2 ** 64 - 1]
@@ -166,20 +164,7 @@ def bad_files():
 def main():
     for some in (example, changes, random_numbers, ends, totals, bad_files):
         some()
-    stdin = b"".join(map(packed, RECORDS))
-    stdout = "".join(map(printed, RECORDS)).encode()
-    assert len(stdin) <= 65536
-    differing = 0
-    for name, content in (("stdin", stdin), ("stdout", stdout)):
-        path = os.path.join(CRATE, name)
-        if "--check" in sys.argv[1:]:
-            if open(path, "rb").read() != content:
-                print(f"motion_runs: {name} differs")
-                differing = 1
-        else:
-            open(path, "wb").write(content)
-    print(f"motion_runs: {len(RECORDS)} records, {len(stdin)} bytes in, {len(stdout)} bytes out")
-    sys.exit(differing)
+    sys.exit(stored("motion_runs", RECORDS, packed, printed))
 
 
 if __name__ == "__main__":
