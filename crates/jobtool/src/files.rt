@@ -18,10 +18,9 @@ fn read_all(fd: i32, buf: &mut [u8]) -> Input
     let mut one = [0u8; 1];
     let more = libc::read(fd, &mut one);
     if 0 < more {
-        io::write_all(
-            STDERR_FILENO,
-            b"jobtool: the input is longer than 1048576 bytes\n",
-        );
+        io::write_all(STDERR_FILENO, b"jobtool: the input is longer than ");
+        io::print_decimal(STDERR_FILENO, buf.len() as u64);
+        io::write_all(STDERR_FILENO, b" bytes\n");
         return Input {
             bytes,
             whole: false,

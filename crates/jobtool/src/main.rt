@@ -55,8 +55,10 @@ enum Outcome {
 fn usage() {
     io::write_all(
         STDERR_FILENO,
-        b"usage: jobtool list|draw|tidy|check|show [IN [OUT]], or jobtool motions HALF_PITCH COLUMN_OFFSET ROW_OFFSET [IN [OUT]]; files to 1048576 bytes, numbers to 15 digits\n",
+        b"usage: jobtool list|draw|tidy|check|show [IN [OUT]], or jobtool motions HALF_PITCH COLUMN_OFFSET ROW_OFFSET [IN [OUT]]; files to ",
     );
+    io::print_decimal(STDERR_FILENO, LIMIT as u64);
+    io::write_all(STDERR_FILENO, b" bytes, numbers to 15 digits\n");
 }
 
 fn command_of(word: &[u8]) -> Command {

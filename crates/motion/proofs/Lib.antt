@@ -2,3 +2,4 @@ pub mod Literals
 pub mod Ranges
 pub mod Changes
 pub mod Calls
+pub mod Bounds

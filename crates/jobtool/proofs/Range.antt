@@ -1,0 +1,8 @@
+-- The range of the millimetres, which `motions-printable` proves of every motion, is the range in which a number's text is its shortest decimal.
+use mathlib.Core.Path.{_≡_, refl}
+use lib.Ieee.{Float}
+use Rattle.motion.proofs.Bounds.{printable}
+use Rattle.decimal.specs.Text.{inRange}
+
+pub same-range : (x : Float) → printable x ≡ inRange x
+same-range x = refl
