@@ -2,18 +2,17 @@
 use mathlib.Core.Path.{_≡_, refl, sym, ap, _∙_, subst}
 use mathlib.Core.Logic.{_⊎_, inl, inr}
 use mathlib.Core.List.{List, _++_}
-use Prim.Native.Nat.{ℕ, zero, suc, _+_, _*_, _-_, _/_, _%_, _≤_, _<_}
+use Prim.Native.Nat.{ℕ, _+_, _*_, _-_, _/_, _%_, _≤_, _<_}
 use native.Mathlib.Omega.{arith}
 use native.Mathlib.Decide.{decLe}
 use native.Mathlib.Nat.{suc-mul, mul-le-mul-right, div-add-mod', div-lt-iff-lt-mul, mod-lt, mul-zero, eq-zero-or-pos}
-use native.Mathlib.Numerals.{add-one}
 use lib.Arith.{digits-lt}
-use lib.ListN.{length, getD, take, drop, set, length-set, length-append, length-drop, List·getD-append}
+use lib.ListN.{length, getD, drop, set, length-set, length-append, length-drop, List·getD-append}
 use lib.Seq.{ext-getD, getD-set-same, getD-set-other, getD-append-add, getD-drop}
 use Rattle.geometry.specs.declared.Head.{Head}
 use Rattle.geometry.specs.Plane.{Cell, cell}
-use Rattle.geometry.specs.Plate.{area, at, tabulated}
-use Rattle.theory.proofs.Plate.{length-tabulated, getD-tabulated, at-cell}
+use Rattle.geometry.specs.Plate.{area, tabulated}
+use Rattle.theory.proofs.Plate.{length-tabulated, getD-tabulated}
 use Rattle.buffers.specs.Fill.{Filled, Mapped}
 
 -- ---- places and rows
@@ -38,7 +37,8 @@ pub filled-none : (f : ℕ → ℕ) (from : ℕ) (old : List ℕ) → Filled f f
 filled-none f from old = record { same = refl; inside = λ n h l. absurd (omega arith); under = λ n h. refl; over = λ n h. refl }
 
 -- one number more
-pub filled-more : (f : ℕ → ℕ) (from to v : ℕ) (old mid : List ℕ) → Filled f from to old mid → from ≤ to → to < length old → v ≡ f to → Filled f from (to + 1) old (set mid to v)
+pub filled-more : (f : ℕ → ℕ) (from to v : ℕ) (old mid : List ℕ) → Filled f from to old mid → from ≤ to → to < length old → v ≡ f to
+    → Filled f from (to + 1) old (set mid to v)
 filled-more f from to v old mid h g l e =
     record {
       same = length-set mid to v ∙ h .same;
@@ -60,7 +60,8 @@ pub filled-as : (f g : ℕ → ℕ) (from to : ℕ) (old new : List ℕ) → Fil
 filled-as f g from to old new h e = record { same = h .same; inside = λ n a b. h .inside n a b ∙ e n a b; under = h .under; over = h .over }
 
 -- a stretch filled, and then the next one
-pub filled-on : (f : ℕ → ℕ) (from mid to : ℕ) (old half new : List ℕ) → from ≤ mid → mid ≤ to → Filled f from mid old half → Filled f mid to half new → Filled f from to old new
+pub filled-on : (f : ℕ → ℕ) (from mid to : ℕ) (old half new : List ℕ) → from ≤ mid → mid ≤ to → Filled f from mid old half → Filled f mid to half new
+    → Filled f from to old new
 filled-on f from mid to old half new a b h l =
     record {
       same = l .same ∙ h .same;
@@ -81,7 +82,13 @@ module _ (p : Head) (f : Cell → ℕ) (old new : List ℕ) where
   mapped-bytes h m = ext-getD 0 new (tabulated p f ++ drop (length (tabulated p f)) old) sizes (λ n l. entry n (decLe (area p) n) (eq-zero-or-pos (p .width)))
     where
       sizes : length new ≡ length (tabulated p f ++ drop (length (tabulated p f)) old)
-      sizes = omega (arith, m .same, length-append (tabulated p f) (drop (length (tabulated p f)) old), length-drop (length (tabulated p f)) old, length-tabulated p f)
+      sizes = omega (
+        arith,
+        m .same,
+        length-append (tabulated p f) (drop (length (tabulated p f)) old),
+        length-drop (length (tabulated p f)) old,
+        length-tabulated p f,
+      )
 
       entry : (n : ℕ) → Dec (area p ≤ n) → (p .width ≡ 0) ⊎ (0 < p .width) → getD new n 0 ≡ getD (tabulated p f ++ drop (length (tabulated p f)) old) n 0
       entry n (yes a) w =
@@ -103,7 +110,8 @@ module _ (p : Head) (f : Cell → ℕ) (old new : List ℕ) where
           ∙ sym (List·getD-append (tabulated p f) (drop (length (tabulated p f)) old) 0 n (omega (arith, length-tabulated p f)))
 
   -- a filled stretch that is the whole map
-  pub filled-map : (g : ℕ → ℕ) → Filled g 0 (area p) old new → ((x y : ℕ) → x < p .width → y < p .height → g (y * p .width + x) ≡ f (cell x y)) → Mapped p f old new
+  pub filled-map : (g : ℕ → ℕ) → Filled g 0 (area p) old new → ((x y : ℕ) → x < p .width → y < p .height → g (y * p .width + x) ≡ f (cell x y))
+      → Mapped p f old new
   filled-map g h e =
       record {
         same = h .same;

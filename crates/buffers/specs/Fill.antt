@@ -19,3 +19,8 @@ pub record Mapped (p : Head) (f : Cell → ℕ) (old new : List ℕ) : Type 0 wh
   pub same : length new ≡ length old
   pub holds : (x y : ℕ) → x < p .width → y < p .height → getD new (y * p .width + x) 0 ≡ f (cell x y)
   pub surplus : (n : ℕ) → area p ≤ n → getD new n 0 ≡ getD old n 0
+
+-- all of a buffer but the plate's bytes is as it was
+pub record PlateOnly (p : Head) (old new : List ℕ) : Type 0 where
+  pub same : length new ≡ length old
+  pub surplus : (n : ℕ) → area p ≤ n → getD new n 0 ≡ getD old n 0

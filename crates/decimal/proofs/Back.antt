@@ -180,12 +180,14 @@ module _ (field below whole fraction half number B : ℕ) (P : 0 < B) (least : 1
   above : (whole * B + number) * 2 ^ 1074 < (2 ^ 52 + below) * (4 * quarter field B) + half * B * 2 ^ 1014
   above =
       rw (← size-quarters field below B least most)
-      (scaled (whole * B + number) (sizeIn field below * B) (half * B) (2 ^ 1014) (pow-pos 1014) (near-up whole fraction half number B (sizeIn field below) v up))
+      (scaled (whole * B + number) (sizeIn field below * B) (half * B) (2 ^ 1014) (pow-pos 1014)
+      (near-up whole fraction half number B (sizeIn field below) v up))
 
   beneath : (2 ^ 52 + below) * (4 * quarter field B) < (whole * B + number) * 2 ^ 1074 + half * B * 2 ^ 1014
   beneath =
       rw (← size-quarters field below B least most)
-      (scaled-down (whole * B + number) (sizeIn field below * B) (half * B) (2 ^ 1014) (pow-pos 1014) (near-down whole fraction half number B (sizeIn field below) v down))
+      (scaled-down (whole * B + number) (sizeIn field below * B) (half * B) (2 ^ 1014) (pow-pos 1014)
+      (near-down whole fraction half number B (sizeIn field below) v down))
 
   rounds : half ≡ cond (eqb below 0) (2 ^ (field - 1017)) (2 * 2 ^ (field - 1017))
       → round binary64 false (whole * B + number) B ≡ odd 53 false (2 ^ 52 + below) (field - 1) 1074
@@ -200,8 +202,10 @@ module _ (field below whole fraction half number B : ℕ) (P : 0 < B) (least : 1
           (rw (o, h) at above)
           (rw (o, h) at beneath))
       go false z h =
-          let q : 2 * 2 ^ (field - 1017) * B * 2 ^ 1014 ≡ 2 * quarter field B = rw (mul-assoc 2 (2 ^ (field - 1017)) B, mul-assoc 2 (2 ^ (field - 1017) * B) (2 ^ 1014)) in
-          inner field below B (whole * B + number) (quarter field B) P least most small (positive below (eqb-false below 0 z)) (quarter-pos field B least P) (step-is field B least)
+          let q : 2 * 2 ^ (field - 1017) * B * 2 ^ 1014 ≡ 2 * quarter field B =
+          rw (mul-assoc 2 (2 ^ (field - 1017)) B, mul-assoc 2 (2 ^ (field - 1017) * B) (2 ^ 1014)) in
+          inner field below B (whole * B + number) (quarter field B) P least most small (positive below (eqb-false below 0 z))
+          (quarter-pos field B least P) (step-is field B least)
           (rw (h, q) at above)
           (rw (h, q) at beneath)
 

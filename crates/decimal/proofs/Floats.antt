@@ -21,7 +21,8 @@ bits-below bits old new at next h p =
     let o : inFields (bits / 2 ^ 52) ≡ false = rw (lt-leb 1017 (bits / 2 ^ 52) h) in
     record { bytes = hexadecimal bits; in-range = λ e. absurd (true≢false (sym e ∙ o)); out-of-range = λ e. refl; put = p }
 
-pub bits-above : (bits : ℕ) (old new : List ℕ) (at next : ℕ) → 1017 ≤ bits / 2 ^ 52 → 1042 < bits / 2 ^ 52 → Put (hexadecimal bits) old new at next → PutBits bits old new at next
+pub bits-above : (bits : ℕ) (old new : List ℕ) (at next : ℕ) → 1017 ≤ bits / 2 ^ 52 → 1042 < bits / 2 ^ 52 → Put (hexadecimal bits) old new at next
+    → PutBits bits old new at next
 bits-above bits old new at next l h p =
     let o : inFields (bits / 2 ^ 52) ≡ false = rw (le-leb 1017 (bits / 2 ^ 52) l, lt-leb (bits / 2 ^ 52) 1042 h) in
     record { bytes = hexadecimal bits; in-range = λ e. absurd (true≢false (sym e ∙ o)); out-of-range = λ e. refl; put = p }
@@ -68,7 +69,8 @@ number-nan x old new at next e p =
       put = p;
     }
 
-pub number-bits : (x : Float) (old new : List ℕ) (at next : ℕ) → fits binary64 x ≡ true → ne x x ≡ false → PutBits (toBits binary64 x) old new at next → PutNumber x old new at next
+pub number-bits : (x : Float) (old new : List ℕ) (at next : ℕ) → fits binary64 x ≡ true → ne x x ≡ false
+    → PutBits (toBits binary64 x) old new at next → PutNumber x old new at next
 number-bits x old new at next f e p =
     record {
       bytes = p .bytes;

@@ -21,7 +21,8 @@ module _ (n u q : ℕ) (U : 0 < u) (a : 2 * (q * u) < 2 * n + u) (b : 2 * n < 2 
   not-more = le-of-suc-le-suc (lt-of-not-le (λ (g : suc q ≤ n / u). omega (arith, a, b, div-add-mod' n u, suc-mul q u, mul-le-mul-right u g)))
 
   not-less : q ≤ suc (n / u)
-  not-less = le-of-suc-le-suc (lt-of-not-le (λ (g : suc (suc (n / u)) ≤ q). omega (arith, a, b, div-add-mod' n u, mod-lt n U, suc-mul (suc (n / u)) u, suc-mul (n / u) u, mul-le-mul-right u g)))
+  not-less = le-of-suc-le-suc (lt-of-not-le (λ (g : suc (suc (n / u)) ≤ q). omega
+      (arith, a, b, div-add-mod' n u, mod-lt n U, suc-mul (suc (n / u)) u, suc-mul (n / u) u, mul-le-mul-right u g)))
 
   pub closest-at : closest n u ≡ q
   closest-at = go (leb q (n / u)) refl
@@ -43,7 +44,8 @@ digits-up a k B = rw (pow-add 2 a k) (simp (mul-assoc, mul-comm, mul-left-comm))
 
 module _ (n B k : ℕ) (P : 0 < B) (least : 2 ^ 52 * (B * 2 ^ k) ≤ n) (most : n < 2 ^ 53 * (B * 2 ^ k)) where
   size-least : 52 + k < size (n / B)
-  size-least = lt-of-not-le (λ (g : size (n / B) ≤ 52 + k). not-le-of-lt (lt-of-lt-of-le (size-lt (n / B)) (pow-mono g)) (le-div-iff-mul-le P .1 (rw (digits-up 52 k B) least)))
+  size-least = lt-of-not-le (λ (g : size (n / B) ≤ 52 + k). not-le-of-lt (lt-of-lt-of-le (size-lt (n / B)) (pow-mono g))
+      (le-div-iff-mul-le P .1 (rw (digits-up 52 k B) least)))
 
   size-most : size (n / B) ≤ 53 + k
   size-most = size-le (n / B) (53 + k) (div-lt-iff-lt-mul P .1 (rw (digits-up 53 k B) most))

@@ -64,10 +64,12 @@ quotient-is a b h B k =
     (round-whole binary64 false b (le-trans k (lit≤ tt)))
 
 -- its size, and with a sign
-pub quotient-of : (n : Bool) (a b : ℕ) (x y : Float) → n ≡ false → (a ≤ 10 ^ 15) × (0 < b) × (b ≤ 10 ^ 15) → x ≡ ofInt binary64 (pos a) → y ≡ ofInt binary64 (pos b)
+pub quotient-of : (n : Bool) (a b : ℕ) (x y : Float) → n ≡ false → (a ≤ 10 ^ 15) × (0 < b) × (b ≤ 10 ^ 15) → x ≡ ofInt binary64 (pos a)
+    → y ≡ ofInt binary64 (pos b)
     → div binary64 x y ≡ round binary64 n a b
 quotient-of n a b x y e h p q = rw (p, q, e) (quotient-is a b (h .0) (h .1) (h .2))
 
-pub negative-of : (n : Bool) (a b : ℕ) (x y : Float) → n ≡ true → (a ≤ 10 ^ 15) × (0 < b) × (b ≤ 10 ^ 15) → x ≡ ofInt binary64 (pos a) → y ≡ ofInt binary64 (pos b)
+pub negative-of : (n : Bool) (a b : ℕ) (x y : Float) → n ≡ true → (a ≤ 10 ^ 15) × (0 < b) × (b ≤ 10 ^ 15) → x ≡ ofInt binary64 (pos a)
+    → y ≡ ofInt binary64 (pos b)
     → neg (div binary64 x y) ≡ round binary64 n a b
 negative-of n a b x y e h p q = rw (p, q, e, quotient-is a b (h .0) (h .1) (h .2)) (neg-round binary64 false a b)

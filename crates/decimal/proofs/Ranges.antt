@@ -12,7 +12,7 @@ use lib.Pow.{pow-add, pow-pos, pow-mono}
 use lib.Ieee.{Float, nan, inf, fin, binary64, up, down, size, le, lt, isNan, toBits}
 use lib.Ieee.Digits.{size-lt, size-le, size-reaches}
 use lib.Ieee.Fits.{down-pos, kept-lt}
-use Rattle.decimal.specs.Text.{inFields, inRange}
+use Rattle.decimal.specs.Text.{inFields, inDecimalRange}
 
 -- ---- tests that come to the same
 
@@ -71,10 +71,12 @@ field-is : (n : ℕ) → cond (leb (2 ^ 1068) n) (ltb n (2 ^ 1094)) false ≡ in
 field-is n = go (leb (2 ^ 1068) n) refl (ltb n (2 ^ 1094)) refl
   where
     go : (s : Bool) → leb (2 ^ 1068) n ≡ s → (t : Bool) → ltb n (2 ^ 1094) ≡ t → cond s t false ≡ inFields (bitsOf n / 2 ^ 52)
-    go false e t f = sym (field-below (size n - 53) (n / 2 ^ (size n - 53)) (dropped-most (size n) 1015 (size-le n 1068 (leb-false (2 ^ 1068) n e))) (kept-lt 53 n))
+    go false e t f = sym (field-below (size n - 53) (n / 2 ^ (size n - 53)) (dropped-most (size n) 1015 (size-le n 1068 (leb-false (2 ^ 1068) n e)))
+        (kept-lt 53 n))
     go true e true f =
         let g : 1016 + 53 ≤ size n = size-more n 1068 (leb-true (2 ^ 1068) n e) in
-        sym (field-within (size n - 53) (n / 2 ^ (size n - 53)) (dropped-least (size n) 1016 g) (dropped-most (size n) 1041 (size-le n 1094 (ltb-true n (2 ^ 1094) f))) (kept-least n (enough 1016 (size n) g)) (kept-lt 53 n))
+        sym (field-within (size n - 53) (n / 2 ^ (size n - 53)) (dropped-least (size n) 1016 g)
+        (dropped-most (size n) 1041 (size-le n 1094 (ltb-true n (2 ^ 1094) f))) (kept-least n (enough 1016 (size n) g)) (kept-lt 53 n))
     go true e false f =
         let g : 1042 + 53 ≤ size n = size-more n 1094 (ltb-false n (2 ^ 1094) f) in
         sym (field-above (size n - 53) (n / 2 ^ (size n - 53)) (dropped-least (size n) 1042 g) (kept-least n (enough 1042 (size n) g)))
@@ -91,7 +93,8 @@ million : (X c : ℕ) → 0 < c → ltb X (2 ^ 20 * c) ≡ ltb (X * 2 ^ 1074 / c
 million X c C =
     leb-same (suc X) (2 ^ 20 * c) (suc (X * 2 ^ 1074 / c)) (2 ^ 1094)
     (λ h. div-lt-iff-lt-mul C .1 (rw (← mul-right-comm (2 ^ 20) c (2 ^ 1074)) (mul-lt-mul-of-pos-right h (pow-pos 1074))))
-    (λ h. lt-of-not-le (λ (g : 2 ^ 20 * c ≤ X). not-le-of-lt (div-lt-iff-lt-mul C .0 h) (rw (← mul-right-comm (2 ^ 20) c (2 ^ 1074)) (mul-le-mul-right (2 ^ 1074) g))))
+    (λ h. lt-of-not-le (λ (g : 2 ^ 20 * c ≤ X). not-le-of-lt (div-lt-iff-lt-mul C .0 h)
+    (rw (← mul-right-comm (2 ^ 20) c (2 ^ 1074)) (mul-le-mul-right (2 ^ 1074) g))))
 
 and-false : (b : Bool) → (b && false) ≡ false
 and-false true = refl
@@ -100,14 +103,15 @@ and-false false = refl
 not-zero : (c : ℕ) → 0 < c → 1 * c ≡ 0 → ⊥
 not-zero c C e = omega arith
 
-range-positive : (m : ℕ) (e : ℤ) → inRange (fin false m e) ≡ cond (leb (2 ^ 1068) (m * up e * 2 ^ 1074 / down e)) (ltb (m * up e * 2 ^ 1074 / down e) (2 ^ 1094)) false
+range-positive : (m : ℕ) (e : ℤ) → inDecimalRange (fin false m e) ≡ cond (leb (2 ^ 1068) (m * up e * 2 ^ 1074 / down e))
+    (ltb (m * up e * 2 ^ 1074 / down e) (2 ^ 1094)) false
 unfolding le lt
 range-positive m e =
     ap₂ (λ (s t : Bool). cond s t false)
     (less-or-same (1 * down e) (m * up e * 64) ∙ ap (λ (c : ℕ). leb c (m * up e * 64)) (one-mul (down e)) ∙ sixty-fourth (m * up e) (down e) (down-pos e))
     (ap (λ (a : ℕ). ltb a (2 ^ 20 * down e)) (mul-one (m * up e)) ∙ million (m * up e) (down e) (down-pos e))
 
-range-negative : (m : ℕ) (e : ℤ) → inRange (fin true m e) ≡ false
+range-negative : (m : ℕ) (e : ℤ) → inDecimalRange (fin true m e) ≡ false
 unfolding le
 range-negative m e = rw (ne-eqb (1 * down e) 0 (not-zero (down e) (down-pos e)), and-false (eqb (1 * down e) (m * up e * 64)))
 
@@ -115,14 +119,14 @@ field-minus : (n : ℕ) → inFields ((2 ^ 63 + (size n - 53) * 2 ^ 52 + n / 2 ^
 field-minus n = field-negative ((size n - 53) * 2 ^ 52) (n / 2 ^ (size n - 53))
 
 -- what is no number is not in the range
-pub nan-out : (x : Float) → isNan x ≡ true → inRange x ≡ false
+pub nan-out : (x : Float) → isNan x ≡ true → inDecimalRange x ≡ false
 unfolding le isNan
 nan-out nan e = refl
 nan-out (inf s) e = absurd (true≢false (sym e))
 nan-out (fin s m g) e = absurd (true≢false (sym e))
 
 -- a number is in the range where its exponent field is
-pub range-is : (x : Float) → isNan x ≡ false → inRange x ≡ inFields (toBits binary64 x / 2 ^ 52)
+pub range-is : (x : Float) → isNan x ≡ false → inDecimalRange x ≡ inFields (toBits binary64 x / 2 ^ 52)
 unfolding le lt toBits isNan
 range-is nan e = absurd (true≢false e)
 range-is (inf false) e = refl

@@ -93,7 +93,8 @@ read-parts t xs ys e f p q h l =
       le-ltb 15 (length (xs ++ ys)) (omega (arith, length-append xs ys)),
     ))
 
-text-parts : (size whole : ℕ) (d : Digits) → (wholePart (textOf size whole d) ≡ digitText 10 size whole) × (fractionPart (textOf size whole d) ≡ digitText 10 (d .count) (d .number))
+text-parts : (size whole : ℕ) (d : Digits) → (wholePart (textOf size whole d) ≡ digitText 10 size whole)
+    × (fractionPart (textOf size whole d) ≡ digitText 10 (d .count) (d .number))
 text-parts size whole d = go (eqb (d .count) 0) refl
   where
     go : (b : Bool) → eqb (d .count) 0 ≡ b
@@ -103,7 +104,8 @@ text-parts size whole d = go (eqb (d .count) 0) refl
       whole-first (digitText 10 size whole) (digitText 10 (d .count) (d .number)) (text-digits size whole),
       fraction-last (digitText 10 size whole) (digitText 10 (d .count) (d .number)) (text-digits size whole),
     )
-    go true e = rw (append-nil (digitText 10 size whole), eqb-true (d .count) 0 e) (whole-only (digitText 10 size whole) (text-digits size whole), fraction-none (digitText 10 size whole) (text-digits size whole))
+    go true e = rw (append-nil (digitText 10 size whole), eqb-true (d .count) 0 e)
+        (whole-only (digitText 10 size whole) (text-digits size whole), fraction-none (digitText 10 size whole) (text-digits size whole))
 
 -- what is put is read as the same float
 pub round-trip : (x : Float) (p : Parts) (bs : List ℕ) → (s : Shown x p bs) → s .size + s .digits .count ≤ 15 → decimalOf bs ≡ Number x
@@ -113,7 +115,8 @@ round-trip x p bs s l =
     let m : length D ≡ s .size = digits-length 10 (s .size) (p .whole) in
     let n : length E ≡ s .digits .count = digits-length 10 (s .digits .count) (s .digits .number) in
     let v : valueAfter 0 (D ++ E) ≡ p .whole * 10 ^ s .digits .count + s .digits .number =
-    value-join 0 D E ∙ ap (λ (a : ℕ). valueAfter a E) (text-value 0 (s .size) (p .whole) (s .sized .enough) ∙ omega arith) ∙ text-value (p .whole) (s .digits .count) (s .digits .number) (s .proper) in
+    value-join 0 D E ∙ ap (λ (a : ℕ). valueAfter a E) (text-value 0 (s .size) (p .whole) (s .sized .enough) ∙ omega arith) ∙ text-value (p .whole)
+    (s .digits .count) (s .digits .number) (s .proper) in
     rw (s .text, no-sign D (cond (eqb (s .digits .count) 0) [] (46 ∷ E)) (text-digits (s .size) (p .whole)) (omega (arith, s .sized .some)))
     (read-parts (textOf (s .size) (p .whole) (s .digits)) D E (text-digits (s .size) (p .whole)) (text-digits (s .digits .count) (s .digits .number))
     (text-parts (s .size) (p .whole) (s .digits) .0)

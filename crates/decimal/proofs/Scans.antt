@@ -15,7 +15,7 @@ use Rattle.decimal.specs.declared.Decimal.{Decimal}
 use Rattle.decimal.specs.declared.Decimal.the-variants.{Number, NotNumber, TooLong}
 use Rattle.decimal.specs.declared.Scan.{Scan}
 use Rattle.decimal.specs.Decimal.{isDigit, areDigits, valueAfter, fractionPart, digitsIn, ofDigits, unsignedOf, decimalOf}
-use Rattle.decimal.specs.Scan.{Bounded, begun, spoiled, pointed, withDigit, stepped, scanned}
+use Rattle.decimal.specs.Scan.{Bounded, begun, spoiled, pointed, withDigit, scannedByte, scanned}
 
 -- ---- a digit is 0 to 9
 
@@ -73,8 +73,8 @@ bounded-point s k = go (s .point)
     go true = record { digits-below = k .digits-below; unit-above = k .unit-above; unit-within = k .unit-within }
     go false = record { digits-below = k .digits-below; unit-above = k .unit-above; unit-within = k .unit-within }
 
-pub bounded-step : (s : Scan) (b : ℕ) → Bounded s → Bounded (stepped s b)
-unfolding stepped
+pub bounded-step : (s : Scan) (b : ℕ) → Bounded s → Bounded (scannedByte s b)
+unfolding scannedByte
 bounded-step s b k = go (isDigit b) refl (eqb b 46)
   where
     go : (d : Bool) → isDigit b ≡ d → (p : Bool) → Bounded (cond d (withDigit s (b - 48)) (cond p (pointed s) (spoiled s)))
@@ -83,22 +83,22 @@ bounded-step s b k = go (isDigit b) refl (eqb b 46)
     go false e false = record { digits-below = k .digits-below; unit-above = k .unit-above; unit-within = k .unit-within }
 
 -- by what a byte is
-pub step-digit : (s : Scan) (b : ℕ) → isDigit b ≡ true → withDigit s (b - 48) ≡ stepped s b
-unfolding stepped
+pub step-digit : (s : Scan) (b : ℕ) → isDigit b ≡ true → withDigit s (b - 48) ≡ scannedByte s b
+unfolding scannedByte
 step-digit s b e = rw e
 
-pub step-point : (s : Scan) (b : ℕ) → isDigit b ≡ false → b ≡ 46 → pointed s ≡ stepped s b
-unfolding stepped
+pub step-point : (s : Scan) (b : ℕ) → isDigit b ≡ false → b ≡ 46 → pointed s ≡ scannedByte s b
+unfolding scannedByte
 step-point s b e h = rw (e, eq-eqb b 46 h)
 
-pub step-other : (s : Scan) (b : ℕ) → isDigit b ≡ false → (b ≡ 46 → ⊥) → spoiled s ≡ stepped s b
-unfolding stepped
+pub step-other : (s : Scan) (b : ℕ) → isDigit b ≡ false → (b ≡ 46 → ⊥) → spoiled s ≡ scannedByte s b
+unfolding scannedByte
 step-other s b e h = rw (e, ne-eqb b 46 h)
 
 pub bounded-all : (u : List ℕ) (s : Scan) → Bounded s → Bounded (scanned s u)
 unfolding scanned
 bounded-all [] s k = k
-bounded-all (b ∷ u) s k = bounded-all u (stepped s b) (bounded-step s b k)
+bounded-all (b ∷ u) s k = bounded-all u (scannedByte s b) (bounded-step s b k)
 
 -- below 15 digits there is room for one more
 pub room : (s : Scan) → Bounded s → s .count < 15 → (s .digits < 10 ^ 14) × (s .unit ≤ 10 ^ 14)
@@ -115,7 +115,7 @@ room-unit s f k h e = rw e (go (s .point))
     go false = omega (arith, room s k h .1)
 
 -- one byte of a text more
-pub scanned-more : (l : List ℕ) (i : ℕ) (s t : Scan) → i < length l → t ≡ stepped s (getD l i 0) → scanned t (drop (i + 1) l) ≡ scanned s (drop i l)
+pub scanned-more : (l : List ℕ) (i : ℕ) (s t : Scan) → i < length l → t ≡ scannedByte s (getD l i 0) → scanned t (drop (i + 1) l) ≡ scanned s (drop i l)
 unfolding scanned
 scanned-more l i s t h e = rw (add-one i, drop-cons l i 0 h, e)
 
@@ -162,7 +162,8 @@ answer-digit n s b u e =
   where
     go : (t : Bool) → ltb (s .count) 15 ≡ t
         → cond (cond (s .good) (areDigits (restOf (s .point) u)) false)
-        (ofDigits n (s .count + suc (length (restOf (s .point) u))) (valueAfter (10 * s .digits + (b - 48)) (restOf (s .point) u)) (s .unit * cond (s .point) 10 1 * 10 ^ placesOf (s .point) u))
+        (ofDigits n (s .count + suc (length (restOf (s .point) u))) (valueAfter (10 * s .digits + (b - 48)) (restOf (s .point) u))
+        (s .unit * cond (s .point) 10 1 * 10 ^ placesOf (s .point) u))
         NotNumber
         ≡ answer n (cond t
         (record { digits = 10 * s .digits + (b - 48); unit = s .unit * cond (s .point) 10 1; count = s .count + 1; point = s .point; good = s .good })
@@ -172,7 +173,8 @@ answer-digit n s b u e =
         rw z
     go false h =
         rw (
-          many n (s .count + suc (length (restOf (s .point) u))) (valueAfter (10 * s .digits + (b - 48)) (restOf (s .point) u)) (s .unit * cond (s .point) 10 1 * 10 ^ placesOf (s .point) u) (omega (arith, ltb-false (s .count) 15 h)),
+          many n (s .count + suc (length (restOf (s .point) u))) (valueAfter (10 * s .digits + (b - 48)) (restOf (s .point) u))
+              (s .unit * cond (s .point) 10 1 * 10 ^ placesOf (s .point) u) (omega (arith, ltb-false (s .count) 15 h)),
           many n (16 + length (restOf (s .point) u)) (valueAfter 0 (restOf (s .point) u)) (1 * 10 ^ placesOf (s .point) u) (omega arith),
         )
 
@@ -187,15 +189,17 @@ answer-point n s b u e = go (s .point)
     go : (p : Bool) → cond (cond (s .good) (areDigits (restOf p (b ∷ u))) false)
         (ofDigits n (s .count + length (restOf p (b ∷ u))) (valueAfter (s .digits) (restOf p (b ∷ u))) (s .unit * 10 ^ placesOf p (b ∷ u)))
         NotNumber
-        ≡ answer n (cond p (record { digits = s .digits; unit = s .unit; count = s .count; point = p; good = false }) (record { digits = s .digits; unit = s .unit; count = s .count; point = true; good = s .good })) u
+        ≡ answer n (cond p (record { digits = s .digits; unit = s .unit; count = s .count; point = p; good = false })
+        (record { digits = s .digits; unit = s .unit; count = s .count; point = true; good = s .good })) u
     go true = rw (point-no-digit b e) (never (s .good) _)
     go false = rw e
 
-answer-step : (n : Bool) (s : Scan) (b : ℕ) (u : List ℕ) → answer n s (b ∷ u) ≡ answer n (stepped s b) u
-unfolding stepped
+answer-step : (n : Bool) (s : Scan) (b : ℕ) (u : List ℕ) → answer n s (b ∷ u) ≡ answer n (scannedByte s b) u
+unfolding scannedByte
 answer-step n s b u = go (isDigit b) refl (eqb b 46) refl
   where
-    go : (d : Bool) → isDigit b ≡ d → (p : Bool) → eqb b 46 ≡ p → answer n s (b ∷ u) ≡ answer n (cond d (withDigit s (b - 48)) (cond p (pointed s) (spoiled s))) u
+    go : (d : Bool) → isDigit b ≡ d → (p : Bool) → eqb b 46 ≡ p
+        → answer n s (b ∷ u) ≡ answer n (cond d (withDigit s (b - 48)) (cond p (pointed s) (spoiled s))) u
     go true e p h = answer-digit n s b u e
     go false e true h = answer-point n s b u h
     go false e false h = answer-other n s b u e h
@@ -203,7 +207,7 @@ answer-step n s b u = go (isDigit b) refl (eqb b 46) refl
 answer-all : (n : Bool) (u : List ℕ) (s : Scan) → answer n s u ≡ answer n (scanned s u) []
 unfolding scanned
 answer-all n [] s = refl
-answer-all n (b ∷ u) s = answer-step n s b u ∙ answer-all n u (stepped s b)
+answer-all n (b ∷ u) s = answer-step n s b u ∙ answer-all n u (scannedByte s b)
 
 answer-begun : (n : Bool) (u : List ℕ) → unsignedOf n u ≡ answer n begun u
 unfolding answer unsignedOf
@@ -216,7 +220,8 @@ answer-end : (n : Bool) (s : Scan) → answer n s [] ≡ cond (s .good) (ofDigit
 unfolding answer
 answer-end n s = go (s .point) (s .good)
   where
-    go : (p g : Bool) → cond (cond g (areDigits (restOf p [])) false) (ofDigits n (s .count + length (restOf p [])) (valueAfter (s .digits) (restOf p [])) (s .unit * 10 ^ placesOf p [])) NotNumber
+    go : (p g : Bool) → cond (cond g (areDigits (restOf p [])) false)
+        (ofDigits n (s .count + length (restOf p [])) (valueAfter (s .digits) (restOf p [])) (s .unit * 10 ^ placesOf p [])) NotNumber
         ≡ cond g (ofDigits n (s .count) (s .digits) (s .unit)) NotNumber
     go true true = rw (add-zero (s .count), mul-one (s .unit))
     go false true = rw (add-zero (s .count), mul-one (s .unit))

@@ -12,7 +12,7 @@ use lib.Arith.{digits-div, digits-mod}
 use lib.Ieee.{nearest}
 use lib.Ieee.Nearest.{closest}
 use Rattle.decimal.specs.declared.Digits.{Digits}
-use Rattle.decimal.specs.Digits.{Within, Shortest}
+use Rattle.decimal.specs.Digits.{NearerThanHalf, Shortest}
 
 -- ---- the nearer of two numbers
 
@@ -54,10 +54,12 @@ pub nearer-tie : (q r : ℕ) → r < 2 ^ 60 → 2 ^ 60 ≤ 2 * r → 2 * r ≤ 2
 nearer-tie q r h l m = sym (closest-is q r h ∙ rw (compare-eq (r * 2) (2 ^ 60) (omega arith)))
 
 -- it is q or the next, and the one that is not farther
-closest-case : (q r : ℕ) → r < 2 ^ 60 → ((closest (q * 2 ^ 60 + r) (2 ^ 60) ≡ q) × (2 * r ≤ 2 ^ 60)) ⊎ ((closest (q * 2 ^ 60 + r) (2 ^ 60) ≡ q + 1) × (2 ^ 60 ≤ 2 * r))
+closest-case : (q r : ℕ) → r < 2 ^ 60 → ((closest (q * 2 ^ 60 + r) (2 ^ 60) ≡ q) × (2 * r ≤ 2 ^ 60))
+    ⊎ ((closest (q * 2 ^ 60 + r) (2 ^ 60) ≡ q + 1) × (2 ^ 60 ≤ 2 * r))
 closest-case q r h = go (compare (r * 2) (2 ^ 60)) refl (leb→le (r * 2) (2 ^ 60)) (eqb→eq (r * 2) (2 ^ 60)) (closest-is q r h) (q % 2) refl
   where
-    go : (o : Ordering) → compare (r * 2) (2 ^ 60) ≡ o → (T (isLe (compare (r * 2) (2 ^ 60))) → r * 2 ≤ 2 ^ 60) → (T (isEq (compare (r * 2) (2 ^ 60))) → r * 2 ≡ 2 ^ 60)
+    go : (o : Ordering) → compare (r * 2) (2 ^ 60) ≡ o → (T (isLe (compare (r * 2) (2 ^ 60))) → r * 2 ≤ 2 ^ 60)
+        → (T (isEq (compare (r * 2) (2 ^ 60))) → r * 2 ≡ 2 ^ 60)
         → closest (q * 2 ^ 60 + r) (2 ^ 60) ≡ nearest q (compare (r * 2) (2 ^ 60)) → (b : ℕ) → q % 2 ≡ b
         → ((closest (q * 2 ^ 60 + r) (2 ^ 60) ≡ q) × (2 * r ≤ 2 ^ 60)) ⊎ ((closest (q * 2 ^ 60 + r) (2 ^ 60) ≡ q + 1) × (2 ^ 60 ≤ 2 * r))
     go Ordering·lt e l m c b z = inl (rw e at c, omega (arith, (rw e at l) tt))
@@ -79,7 +81,7 @@ pub record Found (fraction half rest margin number count : ℕ) : Type 0 where
   pub unit : 10 ^ count ≤ margin
   pub counted : count < margin
   pub narrow : 10 ^ count ≤ 10 * 2 ^ 59
-  pub far : (n k : ℕ) → k < count → Within fraction half n k → ⊥
+  pub far : (n k : ℕ) → k < count → NearerThanHalf fraction half n k → ⊥
 
 pub found-none : (fraction half : ℕ) → 0 < half → fraction < 2 ^ 60 → Found fraction half fraction half 0 0
 found-none fraction half h l =
@@ -118,10 +120,11 @@ near-one rest margin e = go (leb margin rest) refl e
 
 module _ (fraction half rest margin number count : ℕ) (f : Found fraction half rest margin number count) where
   -- so many digits are too few
-  too-few : margin ≤ rest → margin ≤ 2 ^ 60 - rest → (n : ℕ) → Within fraction half n count → ⊥
+  too-few : margin ≤ rest → margin ≤ 2 ^ 60 - rest → (n : ℕ) → NearerThanHalf fraction half n count → ⊥
   too-few l h n w = omega (arith, f .exact, f .scaled, f .small, w .0, w .1, add-mul fraction half (10 ^ count))
 
-  pub found-more : margin ≤ rest → margin ≤ 2 ^ 60 - rest → Found fraction half (10 * rest % 2 ^ 60) (margin * 10) (10 * number + 10 * rest / 2 ^ 60) (count + 1)
+  pub found-more : margin ≤ rest → margin ≤ 2 ^ 60 - rest
+      → Found fraction half (10 * rest % 2 ^ 60) (margin * 10) (10 * number + 10 * rest / 2 ^ 60) (count + 1)
   found-more l h =
       record {
         exact = rw (add-one count, pow-suc 10 count) (omega (arith, f .exact, div-add-mod' (10 * rest) (2 ^ 60), mul-assoc fraction (10 ^ count) 10));
@@ -140,11 +143,11 @@ module _ (fraction half rest margin number count : ℕ) (f : Found fraction half
       more : 19 ≤ count → 10 ^ 19 ≤ 10 ^ count
       more g = pow-le-pow-right (zero-lt-suc 9) g
 
-  near-low : (n : ℕ) → n ≡ number → 2 * rest ≤ 2 ^ 60 → (rest < margin) ⊎ (2 ^ 60 - rest < margin) → Within fraction half n count
+  near-low : (n : ℕ) → n ≡ number → 2 * rest ≤ 2 ^ 60 → (rest < margin) ⊎ (2 ^ 60 - rest < margin) → NearerThanHalf fraction half n count
   near-low n e h (inl l) = (omega (arith, f .exact, f .scaled, add-mul fraction half (10 ^ count)), omega (arith, f .exact, f .scaled))
   near-low n e h (inr l) = (omega (arith, f .exact, f .scaled, add-mul fraction half (10 ^ count)), omega (arith, f .exact, f .scaled))
 
-  near-high : (n : ℕ) → n ≡ number + 1 → 2 ^ 60 ≤ 2 * rest → (rest < margin) ⊎ (2 ^ 60 - rest < margin) → Within fraction half n count
+  near-high : (n : ℕ) → n ≡ number + 1 → 2 ^ 60 ≤ 2 * rest → (rest < margin) ⊎ (2 ^ 60 - rest < margin) → NearerThanHalf fraction half n count
   near-high n e h (inl l) = (omega (arith, f .exact, f .scaled, f .small, add-mul fraction half (10 ^ count)), omega (arith, f .exact, f .scaled, f .small))
   near-high n e h (inr l) = (omega (arith, f .exact, f .scaled, f .small, add-mul fraction half (10 ^ count)), omega (arith, f .exact, f .scaled, f .small))
 
@@ -152,7 +155,11 @@ module _ (fraction half rest margin number count : ℕ) (f : Found fraction half
       → Shortest fraction half (record { number = n; count = count })
   found-end t n e =
       record {
-        within = elim (closest-case number rest (f .small)) [ inl g ↦ near-low n (e ∙ g .0) (g .1) (near-one rest margin t) | inr g ↦ near-high n (e ∙ g .0) (g .1) (near-one rest margin t) ];
+        within = elim (closest-case number rest (f .small)) [
+          | inl g ↦ near-low n (e ∙ g .0) (g .1) (near-one rest margin t)
+          | inr g ↦ near-high n
+              (e ∙ g .0) (g .1) (near-one rest margin t)
+        ];
         fewest = f .far;
         nearest = e ∙ ap (λ (x : ℕ). closest x (2 ^ 60)) (f .exact);
         few = few;
@@ -161,4 +168,5 @@ module _ (fraction half rest margin number count : ℕ) (f : Found fraction half
 -- a fraction's digits are a fraction's: no whole number
 pub proper : (fraction half : ℕ) (d : Digits) → fraction + half ≤ 2 ^ 60 → Shortest fraction half d → d .number < 10 ^ d .count
 proper fraction half d h s =
-    lt-of-not-le (λ (g : 10 ^ d .count ≤ d .number). omega (arith, s .within .0, mul-le-mul-right (10 ^ d .count) h, mul-le-mul-right (2 ^ 60) g, mul-comm (10 ^ d .count) (2 ^ 60)))
+    lt-of-not-le (λ (g : 10 ^ d .count ≤ d .number). omega
+    (arith, s .within .0, mul-le-mul-right (10 ^ d .count) h, mul-le-mul-right (2 ^ 60) g, mul-comm (10 ^ d .count) (2 ^ 60)))

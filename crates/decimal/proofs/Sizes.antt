@@ -14,7 +14,8 @@ pub shifted-one : (n : ℕ) → n < 64 → 1 * 2 ^ n % 2 ^ 64 ≡ 2 ^ n
 shifted-one n h = shl-exact 1 n 64 (lit< tt) (omega arith) ∙ one-mul (2 ^ n)
 
 divided : (s cut w : ℕ) → s * w ≡ s / cut * (cut * w) + s % cut * w
-divided s cut w = ap (λ (x : ℕ). x * w) (sym (div-add-mod' s cut)) ∙ add-mul (s / cut * cut) (s % cut) w ∙ ap (λ (x : ℕ). x + s % cut * w) (mul-assoc (s / cut) cut w)
+divided s cut w = ap (λ (x : ℕ). x * w) (sym (div-add-mod' s cut)) ∙ add-mul (s / cut * cut) (s % cut) w ∙ ap (λ (x : ℕ). x + s % cut * w)
+    (mul-assoc (s / cut) cut w)
 
 -- what is left over a cut, and one unit more, are within what the cut makes
 left-over : (s cut w one : ℕ) → 0 < cut → cut * w ≡ one → s % cut * w + w ≤ one
@@ -58,7 +59,8 @@ module _ (field : ℕ) (least : 1017 ≤ field) (most : field ≤ 1042) where
   pub parts-are : (below unit cut half : ℕ) → unit ≡ 2 ^ (field - 1017) → cut ≡ 2 ^ (1075 - field) → half ≡ cond (eqb below 0) unit (2 * unit)
       → _≡_ {A = Parts} (record { whole = (2 ^ 52 + below) / cut; fraction = (2 ^ 52 + below) % cut * (4 * unit); half = half }) (partsOf field below)
   unfolding partsOf
-  parts-are below unit cut half u v h = rw (h, u, v) (λ i. record { whole = sym (whole-is below) i; fraction = sym (fraction-is below) i; half = halfGap field below })
+  parts-are below unit cut half u v h = rw (h, u, v)
+      (λ i. record { whole = sym (whole-is below) i; fraction = sym (fraction-is below) i; half = halfGap field below })
 
 -- ---- what the parts are good for
 

@@ -63,7 +63,8 @@ digits-more old base at (suc i) left b z h e =
     let p : suc i - 1 ≡ i = omega arith in
     let q : length (digitText base i (left / base)) ≡ i = digits-length base i (left / base) in
     rw (p, e)
-    (subst (λ (k : ℕ). spliced (set old (at + k) (digitByte (left % base))) at (digitText base i (left / base)) ≡ spliced old at (digitText base i (left / base) ++ digitByte (left % base) ∷ [])) q
+    (subst (λ (k : ℕ). spliced (set old (at + k) (digitByte (left % base))) at (digitText base i (left / base)) ≡ spliced
+    old at (digitText base i (left / base) ++ digitByte (left % base) ∷ [])) q
     (store-after old (digitText base i (left / base)) at (digitByte (left % base)) (omega (arith, q))))
 
 pub digits-end : (old new : List ℕ) (base at i left : ℕ) → i ≤ 0 → spliced old at (digitText base i left) ≡ new → old ≡ new
@@ -105,14 +106,18 @@ splice-byte old i b h = sets-eq (b ∷ []) old i (omega arith)
 row : (old ds es : List ℕ) (at b : ℕ) → at + length ds + 1 + length es ≤ length old
     → spliced (set (spliced old at ds) (at + length ds) b) (at + length ds + 1) es ≡ spliced old at (ds ++ b ∷ es)
 row old ds es at b h =
-    rw (splice-byte (spliced old at ds) (at + length ds) b (omega (arith, splice-length old at ds (omega arith))), splice-splice old at ds (b ∷ []) (omega arith))
+    rw (
+      splice-byte (spliced old at ds) (at + length ds) b (omega (arith, splice-length old at ds (omega arith))),
+      splice-splice old at ds (b ∷ []) (omega arith),
+    )
     (let p : at + length ds + 1 ≡ at + length (ds ++ b ∷ []) = omega (arith, length-append ds (b ∷ [])) in
     rw p (splice-splice old at (ds ++ b ∷ []) es (omega (arith, length-append ds (b ∷ []))) ∙ ap (spliced old at) (append-assoc ds (b ∷ []) es)))
 
 pub nan-done : (old : List ℕ) (at : ℕ) → at + 3 ≤ length old → set (set (set old at 110) (at + 1) 97) (at + 2) 110 ≡ spliced old at notNumber
 nan-done old at h = rw (add-one at, add-two at) (sets-eq notNumber old at h)
 
-pub hexadecimal-done : (old new : List ℕ) (at bits : ℕ) → at + 18 ≤ length old → new ≡ spliced (set (set old at 48) (at + 1) 120) (at + 2) (digitText 16 16 bits)
+pub hexadecimal-done : (old new : List ℕ) (at bits : ℕ) → at + 18 ≤ length old
+    → new ≡ spliced (set (set old at 48) (at + 1) 120) (at + 2) (digitText 16 16 bits)
     → new ≡ spliced old at (hexadecimal bits)
 hexadecimal-done old new at bits h e =
     let p : set (set old at 48) (at + 1) 120 ≡ spliced old at (48 ∷ 120 ∷ []) = rw (add-one at) (sets-eq (48 ∷ 120 ∷ []) old at (omega arith)) in
@@ -134,16 +139,21 @@ pub whole-text : (size whole : ℕ) (d : Digits) → d .count ≡ 0 → textOf s
 whole-text size whole d z = rw (eq-eqb (d .count) 0 z) (append-nil (digitText 10 size whole))
 
 pub pointed-text : (old : List ℕ) (at size whole : ℕ) (d : Digits) → (d .count ≡ 0 → ⊥) → at + size + 1 + d .count ≤ length old
-    → spliced (set (spliced old at (digitText 10 size whole)) (at + size) 46) (at + size + 1) (digitText 10 (d .count) (d .number)) ≡ spliced old at (textOf size whole d)
+    → spliced (set (spliced old at (digitText 10 size whole)) (at + size) 46) (at + size + 1) (digitText 10 (d .count) (d .number)) ≡ spliced
+    old at (textOf size whole d)
 pointed-text old at size whole d z h =
     rw (ne-eqb (d .count) 0 z)
-    (subst (λ (k : ℕ). spliced (set (spliced old at (digitText 10 size whole)) (at + k) 46) (at + k + 1) (digitText 10 (d .count) (d .number)) ≡ spliced old at (digitText 10 size whole ++ 46 ∷ digitText 10 (d .count) (d .number)))
+    (subst (λ (k : ℕ). spliced (set (spliced old at (digitText 10 size whole)) (at + k) 46) (at + k + 1) (digitText 10 (d .count) (d .number))
+    ≡ spliced old at (digitText 10 size whole ++ 46 ∷ digitText 10 (d .count) (d .number)))
     (digits-length 10 size whole)
-    (row old (digitText 10 size whole) (digitText 10 (d .count) (d .number)) at 46 (omega (arith, digits-length 10 size whole, digits-length 10 (d .count) (d .number)))))
+    (row old (digitText 10 size whole) (digitText 10 (d .count) (d .number)) at 46
+    (omega (arith, digits-length 10 size whole, digits-length 10 (d .count) (d .number)))))
 
-pub hexadecimal-same : (old new : List ℕ) (at bits : ℕ) → at + 18 ≤ length old → new ≡ spliced (set (set old at 48) (at + 1) 120) (at + 2) (digitText 16 16 bits)
+pub hexadecimal-same : (old new : List ℕ) (at bits : ℕ) → at + 18 ≤ length old
+    → new ≡ spliced (set (set old at 48) (at + 1) 120) (at + 2) (digitText 16 16 bits)
     → length new ≡ length old
-hexadecimal-same old new at bits h e = ap length (hexadecimal-done old new at bits h e) ∙ splice-length old at (hexadecimal bits) (omega (arith, hexadecimal-length bits))
+hexadecimal-same old new at bits h e = ap length (hexadecimal-done old new at bits h e) ∙ splice-length old at (hexadecimal bits)
+    (omega (arith, hexadecimal-length bits))
 
 pub tail-most : (tail count : ℕ) → tail ≡ cond (eqb count 0) 0 (1 + count) → count ≤ 18 → tail ≤ 19
 tail-most tail count e h = rw e (go (eqb count 0))
@@ -162,7 +172,8 @@ module _ (whole : ℕ) (d : Digits) (old : List ℕ) (at size tail : ℕ) (s : I
   pub parts-none : length old < at + (size + tail) → PutParts whole d old old at at
   parts-none h = record { size = size; sized = s; put = not-fitting (textOf size whole d) old at (size + tail) total h }
 
-  pub parts-whole : (new : List ℕ) → d .count ≡ 0 → at + (size + tail) ≤ length old → new ≡ spliced old at (digitText 10 size whole) → PutParts whole d old new at (at + size)
+  pub parts-whole : (new : List ℕ) → d .count ≡ 0 → at + (size + tail) ≤ length old → new ≡ spliced old at (digitText 10 size whole)
+      → PutParts whole d old new at (at + size)
   parts-whole new z h e =
       let w : textOf size whole d ≡ digitText 10 size whole = whole-text size whole d z in
       record {
@@ -180,7 +191,8 @@ module _ (whole : ℕ) (d : Digits) (old : List ℕ) (at size tail : ℕ) (s : I
       e ∙ ap (λ (l : List ℕ). spliced (set l (at + size) 46) (at + size + 1) (digitText 10 (d .count) (d .number))) m
       ∙ pointed-text old at size whole d z (omega (arith, tail-some tail (d .count) t z))
 
-  pub parts-both : (new : List ℕ) → at + (size + tail) ≤ length old → new ≡ spliced old at (textOf size whole d) → PutParts whole d old new at (at + (size + tail))
+  pub parts-both : (new : List ℕ) → at + (size + tail) ≤ length old → new ≡ spliced old at (textOf size whole d)
+      → PutParts whole d old new at (at + (size + tail))
   parts-both new h e = record { size = size; sized = s; put = done (textOf size whole d) old new at (size + tail) total h e }
 
   pub parts-same : (new : List ℕ) → at + (size + tail) ≤ length old → new ≡ spliced old at (textOf size whole d) → length new ≡ length old

@@ -19,12 +19,12 @@ unfoldable pub partsOf : ℕ → ℕ → Parts
 partsOf field below = record { whole = sizeIn field below / 2 ^ 60; fraction = sizeIn field below % 2 ^ 60; half = halfGap field below }
 
 -- n over 10^k is nearer to a fraction of 2^60 than half
-abbrev pub Within : ℕ → ℕ → ℕ → ℕ → Type 0
-Within fraction half n k = (n * 2 ^ 60 < (fraction + half) * 10 ^ k) × (fraction * 10 ^ k < n * 2 ^ 60 + half * 10 ^ k)
+abbrev pub NearerThanHalf : ℕ → ℕ → ℕ → ℕ → Type 0
+NearerThanHalf fraction half n k = (n * 2 ^ 60 < (fraction + half) * 10 ^ k) × (fraction * 10 ^ k < n * 2 ^ 60 + half * 10 ^ k)
 
 -- no fewer digits are within half, and no other number of as many digits is nearer; a tie goes to the even one
 pub record Shortest (fraction half : ℕ) (d : Digits) : Type 0 where
-  pub within : Within fraction half (d .number) (d .count)
-  pub fewest : (n k : ℕ) → k < d .count → Within fraction half n k → ⊥
+  pub within : NearerThanHalf fraction half (d .number) (d .count)
+  pub fewest : (n k : ℕ) → k < d .count → NearerThanHalf fraction half n k → ⊥
   pub nearest : d .number ≡ closest (fraction * 10 ^ d .count) (2 ^ 60)
   pub few : d .count ≤ 18

@@ -31,9 +31,9 @@ withDigit s d =
     (record { digits = 0; unit = 1; count = 16; point = s .point; good = s .good })
 
 -- one byte more
-unfoldable pub stepped : Scan → ℕ → Scan
-stepped s b = cond (isDigit b) (withDigit s (b - 48)) (cond (eqb b 46) (pointed s) (spoiled s))
+unfoldable pub scannedByte : Scan → ℕ → Scan
+scannedByte s b = cond (isDigit b) (withDigit s (b - 48)) (cond (eqb b 46) (pointed s) (spoiled s))
 
 unfoldable pub scanned : Scan → List ℕ → Scan
 scanned s [] = s
-scanned s (b ∷ bs) = scanned (stepped s b) bs
+scanned s (b ∷ bs) = scanned (scannedByte s b) bs

@@ -51,8 +51,8 @@ pub record PutParts (whole : ℕ) (d : Digits) (old new : List ℕ) (at next : �
   pub put : Put (textOf size whole d) old new at next
 
 -- from 2^-6 to below 2^20
-abbrev pub inRange : Float → Bool
-inRange x = cond (le (fin false 1 (negsuc 5)) x) (lt x (fin false 1 (pos 20))) false
+abbrev pub inDecimalRange : Float → Bool
+inDecimalRange x = cond (le (fin false 1 (negsuc 5)) x) (lt x (fin false 1 (pos 20))) false
 
 -- the exponent fields of the floats in that range
 abbrev pub inFields : ℕ → Bool
@@ -82,7 +82,7 @@ pub record PutBits (bits : ℕ) (old new : List ℕ) (at next : ℕ) : Type 0 wh
 -- for a float: its shortest decimal in the range, its bits or "nan" outside
 pub record PutNumber (x : Float) (old new : List ℕ) (at next : ℕ) : Type 0 where
   pub bytes : List ℕ
-  pub in-range : inRange x ≡ true → Shown x (partsIn (toBits binary64 x)) bytes
-  pub out-of-range : inRange x ≡ false → isNan x ≡ false → bytes ≡ hexadecimal (toBits binary64 x)
+  pub in-range : inDecimalRange x ≡ true → Shown x (partsIn (toBits binary64 x)) bytes
+  pub out-of-range : inDecimalRange x ≡ false → isNan x ≡ false → bytes ≡ hexadecimal (toBits binary64 x)
   pub not-number : isNan x ≡ true → bytes ≡ notNumber
   pub put : Put bytes old new at next

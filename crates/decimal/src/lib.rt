@@ -8,7 +8,7 @@ ghost use lib.Ieee.{binary64, round};
 ghost use lib.Ieee.Nearest.{closest};
 ghost use Rattle.fields.specs.Writing.{spliced};
 ghost use Rattle.decimal.specs.Decimal.{isDigit, decimalOf, unsignedOf};
-ghost use Rattle.decimal.specs.Scan.{Bounded, begun, spoiled, pointed, withDigit, stepped, scanned};
+ghost use Rattle.decimal.specs.Scan.{Bounded, begun, spoiled, pointed, withDigit, scannedByte, scanned};
 ghost use Rattle.decimal.specs.Digits.{partsOf, Shortest};
 ghost use Rattle.decimal.specs.Text.{digitByte, digitText, IsSize, Put, hexadecimal, notNumber, PutParts, PutBits, PutNumber};
 
@@ -98,7 +98,7 @@ fn with_point(s: Scan) -> Scan
 // One byte more.
 fn step(s: Scan, b: u8) -> Scan
     requires { ⌜ Bounded s ⌝ }
-    ensures { λ r. ⌜ r ≡ stepped s b ⌝ }
+    ensures { λ r. ⌜ r ≡ scannedByte s b ⌝ }
 {
     if is_digit(b) {
         with_digit(s, (b as u64) - 48)

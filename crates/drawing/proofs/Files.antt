@@ -28,11 +28,12 @@ use Rattle.theory.proofs.Plate.{on-or-off, at-cell}
 use Rattle.buffers.specs.Fill.{Filled, Mapped}
 use Rattle.buffers.specs.Margin.{Margin}
 use Rattle.buffers.proofs.Fill.{row-under}
-use Rattle.rows.specs.Start.{Sides}
+use Rattle.refusal.specs.Sides.{Sides}
 use Rattle.reading.specs.declared.MaybePlunge.{MaybePlunge}
 use Rattle.reading.specs.declared.MaybePlunge.the-variants.{OfPlunge, NoPlunge}
-use Rattle.reading.specs.Reading.{place, plungesUpTo, plungeIf}
-use Rattle.drawing.specs.Levels.{drawnFrom, placed}
+use Rattle.reading.specs.Reading.{place, plungesUpTo}
+use Rattle.reading.specs.Steps.{plungeIf}
+use Rattle.drawing.specs.Levels.{drawnFrom, centredDepth}
 use Rattle.drawing.specs.Files.{plunge, Drawable, reaches, Ranges, centreAt, Of, Raised}
 use Rattle.drawing.proofs.Levels.{Room, room, le-deepest, deepest-le, placed-here, here-placed, drawn-from-zero, drawn-from-none, drawn-from-step, drawn-from-off, drawn-from-west, drawn-from-east, drawn-from-north, drawn-from-south}
 
@@ -46,7 +47,8 @@ module _ (p : Head) (n : ℕ) (f : List ℕ) (sides : Sides p) (d : Drawable p n
   reach-small = omega (arith, fit .west, fit .east, sides .narrow)
 
   pub centre-within : centreAt p (plunge f i) < area p
-  centre-within = let a : plunge f i .row < p .height = omega (arith, fit .south) in let b : plunge f i .column < p .width = omega (arith, fit .east) in digits-lt a b
+  centre-within = let a : plunge f i .row < p .height = omega (arith, fit .south) in let b : plunge f i .column < p .width =
+      omega (arith, fit .east) in digits-lt a b
 
   whole : plungeIf f (place i) ≡ OfPlunge (plunge f i)
   whole = rw (le-leb _ _ reach-small)
@@ -97,7 +99,8 @@ module _ (f : List ℕ) where
       }
 
   -- one plunge more
-  pub ranges-more : (i r a t : ℕ) (first last : List ℕ) (top : ℕ) → Ranges f i first last top → r ≡ plunge f i .reach .0 → r ≤ largestReach → a ≡ cond (eqb (getD last r 0) 0) i (getD first r 0) → t ≡ max top r → Ranges f (i + 1) (set first r a) (set last r (i + 1)) t
+  pub ranges-more : (i r a t : ℕ) (first last : List ℕ) (top : ℕ) → Ranges f i first last top → r ≡ plunge f i .reach .0 → r ≤ largestReach
+      → a ≡ cond (eqb (getD last r 0) 0) i (getD first r 0) → t ≡ max top r → Ranges f (i + 1) (set first r a) (set last r (i + 1)) t
   ranges-more i r a t first last top s e small begin high =
       record {
         first-size = length-set first r a ∙ s .first-size;
@@ -155,7 +158,8 @@ module _ (f : List ℕ) where
           earlier (no k) = omega (arith, getD-set-other last r (plunge f j .reach .0) (i + 1) 0 g, s .ends j (omega arith))
 
       ordered′ : (k : ℕ) → Dec (k ≡ r) → getD (set first r a) k 0 ≤ getD (set last r (i + 1)) k 0
-      ordered′ k (yes g) = subst (λ (k : ℕ). getD (set first r a) k 0 ≤ getD (set last r (i + 1)) k 0) (sym g) (omega (arith, first-here, last-here, begin-here))
+      ordered′ k (yes g) = subst (λ (k : ℕ). getD (set first r a) k 0 ≤ getD (set last r (i + 1)) k 0) (sym g)
+          (omega (arith, first-here, last-here, begin-here))
       ordered′ k (no g) = omega (arith, getD-set-other first r k a 0 g, getD-set-other last r k (i + 1) 0 g, s .ordered k)
 
       within′ : (k : ℕ) → Dec (k ≡ r) → getD (set last r (i + 1)) k 0 ≤ i + 1
@@ -186,12 +190,14 @@ module _ (p : Head) (f : List ℕ) (r : ℕ) where
       }
 
   -- a plunge of the reach
-  pub raised-one : (i v : ℕ) (old : List ℕ) → plunge f i .reach .0 ≡ r → centreAt p (plunge f i) < length old → v ≡ max (getD old (centreAt p (plunge f i)) 0) (plunge f i .depth) → Raised p f r i (i + 1) old (set old (centreAt p (plunge f i)) v)
+  pub raised-one : (i v : ℕ) (old : List ℕ) → plunge f i .reach .0 ≡ r → centreAt p (plunge f i) < length old
+      → v ≡ max (getD old (centreAt p (plunge f i)) 0) (plunge f i .depth) → Raised p f r i (i + 1) old (set old (centreAt p (plunge f i)) v)
   raised-one i v old e l g =
       record {
         same = length-set old k v;
         low = λ n. higher n (ℕ-discrete n k);
-        bound = λ j a b u. let z : i ≡ j = omega arith in subst (λ (j : ℕ). plunge f j .depth ≤ getD (set old k v) (centreAt p (plunge f j)) 0) z (omega (arith, here));
+        bound = λ j a b u. let z : i ≡ j = omega arith in
+            subst (λ (j : ℕ). plunge f j .depth ≤ getD (set old k v) (centreAt p (plunge f j)) 0) z (omega (arith, here));
         met = λ n. one n (ℕ-discrete n k) (decLe (plunge f i .depth) (getD old k 0));
       }
     where
@@ -208,19 +214,29 @@ module _ (p : Head) (f : List ℕ) (r : ℕ) where
       one : (n : ℕ) → Dec (n ≡ k) → Dec (plunge f i .depth ≤ getD old k 0) → (getD (set old k v) n 0 ≡ getD old n 0) ⊎ Of p f r i (i + 1) (set old k v) n
       one n (no h) d = inl (getD-set-other old k n v 0 h)
       one n (yes h) (yes d) = inl (subst (λ (n : ℕ). getD (set old k v) n 0 ≡ getD old n 0) (sym h) (omega (arith, here)))
-      one n (yes h) (no d) = inr (i, omega arith, omega arith, e, sym h, subst (λ (n : ℕ). plunge f i .depth ≡ getD (set old k v) n 0) (sym h) (omega (arith, here)))
+      one n (yes h) (no d) = inr (
+        i,
+        omega arith,
+        omega arith,
+        e,
+        sym h,
+        subst (λ (n : ℕ). plunge f i .depth ≡ getD (set old k v) n 0) (sym h) (omega (arith, here)),
+      )
 
   -- the same of a plunge that was read
   pub raised-skip-told : (i : ℕ) (q : Plunge) (old : List ℕ) → q ≡ plunge f i → (q .reach .0 ≡ r → ⊥) → Raised p f r i (i + 1) old old
   raised-skip-told i q old e h = raised-skip i old (λ g. h (ap (λ (q : Plunge). q .reach .0) e ∙ g))
 
-  pub raised-one-told : (i v : ℕ) (q : Plunge) (old : List ℕ) → q ≡ plunge f i → q .reach .0 ≡ r → centreAt p q < length old → v ≡ max (getD old (centreAt p q) 0) (q .depth) → Raised p f r i (i + 1) old (set old (centreAt p q) v)
+  pub raised-one-told : (i v : ℕ) (q : Plunge) (old : List ℕ) → q ≡ plunge f i → q .reach .0 ≡ r → centreAt p q < length old
+      → v ≡ max (getD old (centreAt p q) 0) (q .depth) → Raised p f r i (i + 1) old (set old (centreAt p q) v)
   raised-one-told i v q old e g l k =
       subst (λ (q : Plunge). Raised p f r i (i + 1) old (set old (centreAt p q) v)) (sym e)
-      (raised-one i v old (ap (λ (q : Plunge). q .reach .0) (sym e) ∙ g) (subst (λ (q : Plunge). centreAt p q < length old) e l) (subst (λ (q : Plunge). v ≡ max (getD old (centreAt p q) 0) (q .depth)) e k))
+      (raised-one i v old (ap (λ (q : Plunge). q .reach .0) (sym e) ∙ g) (subst (λ (q : Plunge). centreAt p q < length old) e l)
+      (subst (λ (q : Plunge). v ≡ max (getD old (centreAt p q) 0) (q .depth)) e k))
 
   -- some, and then the next ones
-  pub raised-on : (from i to : ℕ) (old mid new : List ℕ) → from ≤ i → i ≤ to → Raised p f r from i old mid → Raised p f r i to mid new → Raised p f r from to old new
+  pub raised-on : (from i to : ℕ) (old mid new : List ℕ) → from ≤ i → i ≤ to → Raised p f r from i old mid → Raised p f r i to mid new
+      → Raised p f r from to old new
   raised-on from i to old mid new h l a b =
       record {
         same = b .same ∙ a .same;
@@ -233,7 +249,8 @@ module _ (p : Head) (f : List ℕ) (r : ℕ) where
       in-turn j u v e (yes d) = b .bound j d v e
       in-turn j u v e (no d) = omega (arith, a .bound j u (omega arith) e, b .low (centreAt p (plunge f j)))
 
-      which : (n : ℕ) → (getD new n 0 ≡ getD mid n 0) ⊎ Of p f r i to new n → (getD mid n 0 ≡ getD old n 0) ⊎ Of p f r from i mid n → (getD new n 0 ≡ getD old n 0) ⊎ Of p f r from to new n
+      which : (n : ℕ) → (getD new n 0 ≡ getD mid n 0) ⊎ Of p f r i to new n → (getD mid n 0 ≡ getD old n 0) ⊎ Of p f r from i mid n
+          → (getD new n 0 ≡ getD old n 0) ⊎ Of p f r from to new n
       which n (inr (j, s, t, e, g, k)) m = inr (j, omega arith, t, e, g, k)
       which n (inl c) (inl m) = inl (c ∙ m)
       which n (inl c) (inr (j, s, t, e, g, k)) = inr (j, s, omega arith, e, g, k ∙ sym c)
@@ -280,7 +297,8 @@ module _ (p : Head) (n : ℕ) (f : List ℕ) (sides : Sides p) (d : Drawable p n
   fits-all q m = let t = index m in subst (λ (q : Plunge). fitsPlate p q ≡ true) (sym (t .2)) (d .fits (t .0) (t .1))
 
   -- the plunges of one reach placed on a map
-  module _ (r from to : ℕ) (g : Cell → ℕ) (old mid new : List ℕ) (m : Mapped p g old mid) (a : Raised p f r from to mid new) (has : (i : ℕ) → i < n → plunge f i .reach .0 ≡ r → (from ≤ i) × (i < to)) (within : to ≤ n) where
+  module _ (r from to : ℕ) (g : Cell → ℕ) (old mid new : List ℕ) (m : Mapped p g old mid) (a : Raised p f r from to mid new) (has : (i : ℕ) → i < n
+      → plunge f i .reach .0 ≡ r → (from ≤ i) × (i < to)) (within : to ≤ n) where
     abbrev is-placed : Cell → Plunge → Bool
     is-placed c q = cond (eqb (q .reach .0) r) (eqb (dist (p .kind) (centre q) c) 0) false
 
@@ -288,7 +306,7 @@ module _ (p : Head) (n : ℕ) (f : List ℕ) (sides : Sides p) (d : Drawable p n
       abbrev here : ℕ
       here = y * p .width + x
 
-      placed-le : placed (p .kind) r qs (cell x y) ≤ getD new here 0
+      placed-le : centredDepth (p .kind) r qs (cell x y) ≤ getD new here 0
       placed-le = deepest-le (is-placed (cell x y)) qs (getD new here 0) (λ q k e. one q k (here-placed (p .kind) r q (cell x y) e))
         where
           one : (q : Plunge) → List·Memᴰ q qs → (q .reach .0 ≡ r) × (dist (p .kind) (centre q) (cell x y) ≡ 0) → q .depth ≤ getD new here 0
@@ -303,10 +321,10 @@ module _ (p : Head) (n : ℕ) (f : List ℕ) (sides : Sides p) (d : Drawable p n
               let b = a .bound i (s .0) (s .1) (ap (λ (q : Plunge). q .reach .0) (sym (t .2)) ∙ e .0) in
               subst (λ (j : ℕ). q .depth ≤ getD new j 0) z (subst (λ (q : Plunge). q .depth ≤ getD new (centreAt p q) 0) (sym (t .2)) b)
 
-      new-le : getD new here 0 ≤ max (g (cell x y)) (placed (p .kind) r qs (cell x y))
+      new-le : getD new here 0 ≤ max (g (cell x y)) (centredDepth (p .kind) r qs (cell x y))
       new-le = go (a .met here)
         where
-          go : (getD new here 0 ≡ getD mid here 0) ⊎ Of p f r from to new here → getD new here 0 ≤ max (g (cell x y)) (placed (p .kind) r qs (cell x y))
+          go : (getD new here 0 ≡ getD mid here 0) ⊎ Of p f r from to new here → getD new here 0 ≤ max (g (cell x y)) (centredDepth (p .kind) r qs (cell x y))
           go (inl e) = omega (arith, m .holds x y hx hy)
           go (inr (i, s, t, e, z, k)) =
               let l : i < n = omega arith in
@@ -317,10 +335,10 @@ module _ (p : Head) (n : ℕ) (f : List ℕ) (sides : Sides p) (d : Drawable p n
               let w : dist (p .kind) (centre q) (cell x y) ≡ 0 = ap (dist (p .kind) (centre q)) (sym c) ∙ dist-self (p .kind) (centre q) in
               omega (arith, le-deepest (is-placed (cell x y)) qs (member i l) (placed-here (p .kind) r q (cell x y) e w))
 
-      new-is : getD new here 0 ≡ max (g (cell x y)) (placed (p .kind) r qs (cell x y))
+      new-is : getD new here 0 ≡ max (g (cell x y)) (centredDepth (p .kind) r qs (cell x y))
       new-is = omega (arith, new-le, placed-le, a .low here, m .holds x y hx hy)
 
-    placed-mapped : Mapped p (λ c. max (g c) (placed (p .kind) r qs c)) old new
+    placed-mapped : Mapped p (λ c. max (g c) (centredDepth (p .kind) r qs c)) old new
     placed-mapped = record { same = a .same ∙ m .same; holds = new-is; surplus = λ k l. past k l (a .met k) ∙ m .surplus k l }
       where
         past : (k : ℕ) → area p ≤ k → (getD new k 0 ≡ getD mid k 0) ⊎ Of p f r from to new k → getD new k 0 ≡ getD mid k 0
@@ -328,7 +346,8 @@ module _ (p : Head) (n : ℕ) (f : List ℕ) (sides : Sides p) (d : Drawable p n
         past k l (inr (i, s, t, e, z, w)) = absurd (omega (arith, centre-within p n f sides d i (omega arith)))
 
   -- what a stretch of a reach has
-  has-all : (first last : List ℕ) (top : ℕ) → Ranges f n first last top → (r i : ℕ) → i < n → plunge f i .reach .0 ≡ r → (getD first r 0 ≤ i) × (i < getD last r 0)
+  has-all : (first last : List ℕ) (top : ℕ) → Ranges f n first last top → (r i : ℕ) → i < n → plunge f i .reach .0 ≡ r → (getD first r 0 ≤ i)
+      × (i < getD last r 0)
   has-all first last top s r i l e = (subst (λ (k : ℕ). getD first k 0 ≤ i) e (s .starts i l), subst (λ (k : ℕ). i < getD last k 0) e (s .ends i l))
 
   -- the highest of nothing
@@ -336,17 +355,20 @@ module _ (p : Head) (n : ℕ) (f : List ℕ) (sides : Sides p) (d : Drawable p n
   near-none kd g z c = let t = highestNear-met kd g c in omega (arith, t .2, z (t .0))
 
   -- the first level: the plunges of the largest reach on a bare plate
-  pub level-first : (first last : List ℕ) (top : ℕ) → Ranges f n first last top → (old new : List ℕ) → Mapped p (λ c. 0) old old → Raised p f top (getD first top 0) (getD last top 0) old new → Mapped p (drawnFrom (p .kind) top qs) old new
+  pub level-first : (first last : List ℕ) (top : ℕ) → Ranges f n first last top → (old new : List ℕ) → Mapped p (λ c. 0) old old
+      → Raised p f top (getD first top 0) (getD last top 0) old new → Mapped p (drawnFrom (p .kind) top qs) old new
   level-first first last top s old new m a =
       let b = placed-mapped top (getD first top 0) (getD last top 0) (λ c. 0) old old new m a (has-all first last top s top) (s .within top) in
       record { same = b .same; holds = λ x y h l. b .holds x y h l ∙ sym (grown (cell x y)); surplus = b .surplus }
     where
-      grown : (c : Cell) → drawnFrom (p .kind) top qs c ≡ max 0 (placed (p .kind) top qs c)
+      grown : (c : Cell) → drawnFrom (p .kind) top qs c ≡ max 0 (centredDepth (p .kind) top qs c)
       grown c =
           omega (
             arith,
             drawn-from-step (p .kind) qs top c,
-            near-none (p .kind) (drawnFrom (p .kind) (suc top) qs) (drawn-from-none (p .kind) qs (suc top) (λ q k. let t = index k in omega (arith, s .largest (t .0) (t .1), ap (λ (q : Plunge). q .reach .0) (t .2)))) c,
+            near-none (p .kind) (drawnFrom (p .kind) (suc top) qs)
+                (drawn-from-none (p .kind) qs (suc top)
+                (λ q k. let t = index k in omega (arith, s .largest (t .0) (t .1), ap (λ (q : Plunge). q .reach .0) (t .2)))) c,
           )
 
   -- a level's map has its numbers at every cell of the plane
@@ -354,7 +376,8 @@ module _ (p : Head) (n : ℕ) (f : List ℕ) (sides : Sides p) (d : Drawable p n
   at-level r old mid m = fun-ext (λ c. go c (on-or-off p c))
     where
       go : (c : Cell) → On p c ⊎ ((k : List ℕ) → at p k c ≡ 0) → at p mid c ≡ drawnFrom (p .kind) r qs c
-      go c (inl o) = subst (λ c. at p mid c ≡ drawnFrom (p .kind) r qs c) (sym (o .is)) (at-cell p mid (o .column) (o .row) (o .left) (o .upper) ∙ m .holds (o .column) (o .row) (o .left) (o .upper))
+      go c (inl o) = subst (λ c. at p mid c ≡ drawnFrom (p .kind) r qs c) (sym (o .is))
+          (at-cell p mid (o .column) (o .row) (o .left) (o .upper) ∙ m .holds (o .column) (o .row) (o .left) (o .upper))
       go c (inr z) = z mid ∙ sym (drawn-from-off p qs fits-all r c z)
 
   -- and 0 within its reach of the border
@@ -369,24 +392,27 @@ module _ (p : Head) (n : ℕ) (f : List ℕ) (sides : Sides p) (d : Drawable p n
       })
 
   -- one level from the next: dilated by one, with the plunges of its reach placed
-  pub level-next : (first last : List ℕ) (top : ℕ) → Ranges f n first last top → (r s : ℕ) → s ≡ suc r → (old mid half new : List ℕ) → Mapped p (drawnFrom (p .kind) s qs) old mid → Mapped p (highestNear (p .kind) (at p mid)) mid half → Raised p f r (getD first r 0) (getD last r 0) half new → Mapped p (drawnFrom (p .kind) r qs) old new
+  pub level-next : (first last : List ℕ) (top : ℕ) → Ranges f n first last top → (r s : ℕ) → s ≡ suc r → (old mid half new : List ℕ)
+      → Mapped p (drawnFrom (p .kind) s qs) old mid → Mapped p (highestNear (p .kind) (at p mid)) mid half
+      → Raised p f r (getD first r 0) (getD last r 0) half new → Mapped p (drawnFrom (p .kind) r qs) old new
   level-next first last top t r s e old mid half new m h a =
       let w = mapped-on p (drawnFrom (p .kind) s qs) (highestNear (p .kind) (at p mid)) old mid half m h in
       let b = placed-mapped r (getD first r 0) (getD last r 0) (highestNear (p .kind) (at p mid)) old half new w a (has-all first last top t r) (t .within r) in
       record { same = b .same; holds = λ x y k l. b .holds x y k l ∙ sym (grown (cell x y)); surplus = b .surplus }
     where
-      grown : (c : Cell) → drawnFrom (p .kind) r qs c ≡ max (highestNear (p .kind) (at p mid) c) (placed (p .kind) r qs c)
+      grown : (c : Cell) → drawnFrom (p .kind) r qs c ≡ max (highestNear (p .kind) (at p mid) c) (centredDepth (p .kind) r qs c)
       grown c =
           drawn-from-step (p .kind) qs r c
-          ∙ ap (λ (k : ℕ). max (highestNear (p .kind) (drawnFrom (p .kind) k qs) c) (placed (p .kind) r qs c)) (sym e)
-          ∙ ap (λ (g : Cell → ℕ). max (highestNear (p .kind) g c) (placed (p .kind) r qs c)) (sym (at-level s old mid m))
+          ∙ ap (λ (k : ℕ). max (highestNear (p .kind) (drawnFrom (p .kind) k qs) c) (centredDepth (p .kind) r qs c)) (sym e)
+          ∙ ap (λ (g : Cell → ℕ). max (highestNear (p .kind) g c) (centredDepth (p .kind) r qs c)) (sym (at-level s old mid m))
 
   -- the last level is the drawing
   pub level-last : (r : ℕ) → r ≤ 0 → (old new : List ℕ) → Mapped p (drawnFrom (p .kind) r qs) old new → Mapped p (drawnFrom (p .kind) 0 qs) old new
   level-last r h old new m = let e : r ≡ 0 = omega arith in subst (λ (r : ℕ). Mapped p (drawnFrom (p .kind) r qs) old new) e m
 
   -- what was drawn on a plate of zeros
-  pub drawn-mapped : (old mid new : List ℕ) → Filled (λ k. 0) 0 (area p) old mid → Mapped p (drawnFrom (p .kind) 0 qs) mid new → Mapped p (drawn (p .kind) qs) old new
+  pub drawn-mapped : (old mid new : List ℕ) → Filled (λ k. 0) 0 (area p) old mid → Mapped p (drawnFrom (p .kind) 0 qs) mid new
+      → Mapped p (drawn (p .kind) qs) old new
   drawn-mapped old mid new a b =
       record {
         same = b .same ∙ a .same;

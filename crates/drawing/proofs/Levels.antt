@@ -23,7 +23,7 @@ use Rattle.theory.proofs.Balls.{col-near, row-near}
 use Rattle.theory.proofs.Erosion.{le-highestNear, highestNear-met}
 use Rattle.theory.proofs.Plunges.{fitsPlate-iff}
 use Rattle.theory.proofs.Plate.{at-tabulated}
-use Rattle.drawing.specs.Levels.{deepest, drawnFrom, placed}
+use Rattle.drawing.specs.Levels.{deepest, drawnFrom, centredDepth}
 
 -- ---- the highest depth of some plunges
 
@@ -54,10 +54,12 @@ both true b e = (refl, e)
 both false b e = let z : _≡_ {A = ℕ} 0 1 = cc in absurd (omega arith)
 
 -- a plunge of reach r, centred at the cell
-pub placed-here : (kd : Kind) (r : ℕ) (q : Plunge) (c : Cell) → q .reach .0 ≡ r → dist kd (centre q) c ≡ 0 → cond (eqb (q .reach .0) r) (eqb (dist kd (centre q) c) 0) false ≡ true
+pub placed-here : (kd : Kind) (r : ℕ) (q : Plunge) (c : Cell) → q .reach .0 ≡ r → dist kd (centre q) c ≡ 0
+    → cond (eqb (q .reach .0) r) (eqb (dist kd (centre q) c) 0) false ≡ true
 placed-here kd r q c e g = rw (eq-eqb (q .reach .0) r e, eq-eqb (dist kd (centre q) c) 0 g)
 
-pub here-placed : (kd : Kind) (r : ℕ) (q : Plunge) (c : Cell) → cond (eqb (q .reach .0) r) (eqb (dist kd (centre q) c) 0) false ≡ true → (q .reach .0 ≡ r) × (dist kd (centre q) c ≡ 0)
+pub here-placed : (kd : Kind) (r : ℕ) (q : Plunge) (c : Cell) → cond (eqb (q .reach .0) r) (eqb (dist kd (centre q) c) 0) false ≡ true
+    → (q .reach .0 ≡ r) × (dist kd (centre q) c ≡ 0)
 here-placed kd r q c e = let t = both (eqb (q .reach .0) r) (eqb (dist kd (centre q) c) 0) e in (eqb-true _ _ (t .0), eqb-true _ _ (t .1))
 
 -- ---- levels
@@ -66,23 +68,29 @@ here-placed kd r q c e = let t = both (eqb (q .reach .0) r) (eqb (dist kd (centr
 pub drawn-from-zero : (kd : Kind) (qs : List Plunge) (c : Cell) → drawnFrom kd 0 qs c ≡ drawn kd qs c
 unfolding deepest drawn
 drawn-from-zero kd qs c =
-    let e : _≡_ {A = Plunge → Bool} (λ q. leb (dist kd (centre q) c + 0) (q .reach .0)) (λ q. covers kd q c) = fun-ext (λ q. ap (λ (n : ℕ). leb n (q .reach .0)) (add-zero (dist kd (centre q) c))) in
+    let e : _≡_ {A = Plunge → Bool} (λ q. leb (dist kd (centre q) c + 0) (q .reach .0)) (λ q. covers kd q c) =
+    fun-ext (λ q. ap (λ (n : ℕ). leb n (q .reach .0)) (add-zero (dist kd (centre q) c))) in
     ap (λ (t : Plunge → Bool). highest 0 (map (λ q. q .depth) (select t qs))) e
 
 module _ (kd : Kind) (qs : List Plunge) where
   -- above all reaches there is nothing
   pub drawn-from-none : (r : ℕ) → ((q : Plunge) → List·Memᴰ q qs → q .reach .0 < r) → (c : Cell) → drawnFrom kd r qs c ≡ 0
   drawn-from-none r h c =
-      omega (arith, deepest-le (λ q. leb (dist kd (centre q) c + r) (q .reach .0)) qs 0 (λ q m e. absurd (omega (arith, h q m, leb-true (dist kd (centre q) c + r) (q .reach .0) e))))
+      omega (
+        arith,
+        deepest-le (λ q. leb (dist kd (centre q) c + r) (q .reach .0)) qs 0
+            (λ q m e. absurd (omega (arith, h q m, leb-true (dist kd (centre q) c + r) (q .reach .0) e))),
+      )
 
   -- one level from the next: dilated by one, and its own plunges placed
-  pub drawn-from-step : (r : ℕ) (c : Cell) → drawnFrom kd r qs c ≡ max (highestNear kd (drawnFrom kd (suc r) qs) c) (placed kd r qs c)
+  pub drawn-from-step : (r : ℕ) (c : Cell) → drawnFrom kd r qs c ≡ max (highestNear kd (drawnFrom kd (suc r) qs) c) (centredDepth kd r qs c)
   drawn-from-step r c = omega (arith, under, near-under, placed-under)
     where
       narrow : ℕ → Cell → Plunge → Bool
       narrow r c q = leb (dist kd (centre q) c + r) (q .reach .0)
 
-      one : (q : Plunge) → List·Memᴰ q qs → dist kd (centre q) c + r ≤ q .reach .0 → Dec (suc r ≤ q .reach .0) → q .depth ≤ max (highestNear kd (drawnFrom kd (suc r) qs) c) (placed kd r qs c)
+      one : (q : Plunge) → List·Memᴰ q qs → dist kd (centre q) c + r ≤ q .reach .0 → Dec (suc r ≤ q .reach .0)
+          → q .depth ≤ max (highestNear kd (drawnFrom kd (suc r) qs) c) (centredDepth kd r qs c)
       one q m h (no g) =
           let e : q .reach .0 ≡ r = omega arith in
           let z : dist kd (centre q) c ≡ 0 = omega arith in
@@ -92,7 +100,7 @@ module _ (kd : Kind) (qs : List Plunge) where
           let l : dist kd (centre q) (s .0) + suc r ≤ q .reach .0 = omega (arith, s .2, dist-sym kd (centre q) (s .0)) in
           omega (arith, le-deepest (narrow (suc r) (s .0)) qs m (le-leb _ _ l), le-highestNear kd (drawnFrom kd (suc r) qs) c (s .1))
 
-      under : drawnFrom kd r qs c ≤ max (highestNear kd (drawnFrom kd (suc r) qs) c) (placed kd r qs c)
+      under : drawnFrom kd r qs c ≤ max (highestNear kd (drawnFrom kd (suc r) qs) c) (centredDepth kd r qs c)
       under = deepest-le (narrow r c) qs _ (λ q m e. one q m (leb-true _ _ e) (decLe (suc r) (q .reach .0)))
 
       near-under : highestNear kd (drawnFrom kd (suc r) qs) c ≤ drawnFrom kd r qs c
@@ -105,7 +113,7 @@ module _ (kd : Kind) (qs : List Plunge) where
               let l : dist kd (centre q) c + r ≤ q .reach .0 = omega (arith, near kd c w, dist-sym kd n c, dist-tri kd (centre q) n c) in
               le-deepest (narrow r c) qs m (le-leb _ _ l))
 
-      placed-under : placed kd r qs c ≤ drawnFrom kd r qs c
+      placed-under : centredDepth kd r qs c ≤ drawnFrom kd r qs c
       placed-under =
           deepest-le _ qs _ (λ q m e.
           let h = here-placed kd r q c e in

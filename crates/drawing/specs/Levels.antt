@@ -18,5 +18,5 @@ abbrev pub drawnFrom : Kind → ℕ → List Plunge → Cell → ℕ
 drawnFrom kd r qs c = deepest (λ q. leb (dist kd (centre q) c + r) (q .reach .0)) qs
 
 -- the depth that a cell gets from the plunges of reach r centred at it
-abbrev pub placed : Kind → ℕ → List Plunge → Cell → ℕ
-placed kd r qs c = deepest (λ q. cond (eqb (q .reach .0) r) (eqb (dist kd (centre q) c) 0) false) qs
+abbrev pub centredDepth : Kind → ℕ → List Plunge → Cell → ℕ
+centredDepth kd r qs c = deepest (λ q. cond (eqb (q .reach .0) r) (eqb (dist kd (centre q) c) 0) false) qs

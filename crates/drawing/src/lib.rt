@@ -3,7 +3,7 @@
 use geometry::Head;
 use geometry::Reach;
 use reading::MaybePlunge;
-use sweep::Leaf;
+use window_filter::Leaf;
 ghost use mathlib.Core.Path.{_≡_};
 ghost use Prim.Native.Nat.{_+_, _*_, _≤_, _<_, max};
 ghost use mathlib.Core.Bool.{cond};
@@ -12,7 +12,7 @@ ghost use lib.ListN.{length, replicate};
 ghost use Rattle.geometry.specs.Plate.{area};
 ghost use Rattle.theory.specs.Listing.{drawn};
 ghost use Rattle.buffers.specs.Fill.{Mapped};
-ghost use Rattle.rows.specs.Start.{Sides};
+ghost use Rattle.refusal.specs.Sides.{Sides};
 ghost use Rattle.reading.specs.Reading.{plungesUpTo};
 ghost use Rattle.drawing.specs.Levels.{drawnFrom};
 ghost use Rattle.drawing.specs.Files.{plunge, Drawable, reaches, Ranges, Raised};
@@ -131,7 +131,7 @@ fn draw_levels(
     let mut reach = top;
     while 0 < reach {
         reach -= 1;
-        sweep::sweep(head, Leaf::Highest, reach, map);
+        window_filter::filter_map(head, Leaf::Highest, reach, map);
         place_range(head, file, count, first[reach], last[reach], reach, map);
     }
 }

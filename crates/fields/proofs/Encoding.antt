@@ -77,5 +77,6 @@ fields-injective (q ∷ qs) (r ∷ rs) m n e =
 -- two heads or two lists never have the same bytes
 pub encoded-injective : (p o : Head) (qs rs : List Plunge) → encoded p qs ≡ encoded o rs → (p ≡ o) × (qs ≡ rs)
 encoded-injective p o qs rs e =
-    let t = head-injective p o (plungeFields qs ++ endField (length qs)) (plungeFields rs ++ endField (length rs)) (sym (encoded-parts p qs) ∙ e ∙ encoded-parts o rs) in
+    let t = head-injective p o (plungeFields qs ++ endField (length qs)) (plungeFields rs ++ endField (length rs))
+    (sym (encoded-parts p qs) ∙ e ∙ encoded-parts o rs) in
     (t .0, fields-injective qs rs (length qs) (length rs) (t .1))

@@ -48,11 +48,13 @@ splice-splice old at bs cs h =
 -- what lies past the bytes, and what lies before them, is as it was
 pub splice-drop : (old : List ℕ) (at : ℕ) (bs : List ℕ) → at + length bs ≤ length old → drop (at + length bs) (spliced old at bs) ≡ drop (at + length bs) old
 splice-drop old at bs h =
-    drop-at (take at old ++ bs) (drop (at + length bs) old) (at + length bs) (length-append (take at old) bs ∙ omega (arith, length-take-le at old (omega arith)))
+    drop-at (take at old ++ bs) (drop (at + length bs) old) (at + length bs)
+    (length-append (take at old) bs ∙ omega (arith, length-take-le at old (omega arith)))
 
 pub splice-take : (old : List ℕ) (at : ℕ) (bs : List ℕ) → at + length bs ≤ length old → take (at + length bs) (spliced old at bs) ≡ take at old ++ bs
 splice-take old at bs h =
-    take-at (take at old ++ bs) (drop (at + length bs) old) (at + length bs) (length-append (take at old) bs ∙ omega (arith, length-take-le at old (omega arith)))
+    take-at (take at old ++ bs) (drop (at + length bs) old) (at + length bs)
+    (length-append (take at old) bs ∙ omega (arith, length-take-le at old (omega arith)))
 
 -- ---- stores in a row
 

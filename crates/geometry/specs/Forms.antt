@@ -6,7 +6,6 @@ use Rattle.geometry.specs.declared.Kind.{Kind}
 use Rattle.geometry.specs.declared.Kind.the-variants.{Diamond, Square}
 use Rattle.geometry.specs.declared.MaybeKind.{MaybeKind}
 use Rattle.geometry.specs.declared.MaybeKind.the-variants.{OfKind, NoKind}
-use Rattle.geometry.specs.declared.Reach.{Reach}
 use Rattle.geometry.specs.declared.Clearance.{Clearance}
 use Rattle.geometry.specs.declared.MaybeReach.{MaybeReach}
 use Rattle.geometry.specs.declared.MaybeReach.the-variants.{OfReach, NoReach}

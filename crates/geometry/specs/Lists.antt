@@ -3,6 +3,7 @@ use mathlib.Core.Path.{_≡_}
 use mathlib.Core.Bool.{Bool, true, false, cond}
 use mathlib.Core.List.{List, [], _∷_, _++_}
 use Prim.Native.Nat.{ℕ, zero, suc, _+_, _≤_, min, max}
+use lib.Dec.{eqb}
 
 module _ {A : Type 0} where
   -- f i, then f (i + 1), and so on: n lists in one
@@ -51,3 +52,9 @@ highest = fold max
 
 abbrev pub sum : List ℕ → ℕ
 sum = fold _+_ 0
+
+-- the length of the common beginning of two lists
+abbrev pub common : List ℕ → List ℕ → ℕ
+common fs [] = 0
+common [] (b ∷ bs) = 0
+common (a ∷ fs) (b ∷ bs) = cond (eqb a b) (suc (common fs bs)) 0

@@ -20,12 +20,12 @@ abbrev pub covers : Kind → Plunge → Cell → Bool
 covers kd q c = leb (dist kd (centre q) c) (q .reach .0)
 
 -- all cells of the ball about c are in the ball about d
-abbrev pub Within : Kind → Cell → ℕ → Cell → ℕ → Type 0
-Within kd c r d s = (o : Cell) → Ball kd c r o → Ball kd d s o
+abbrev pub BallWithin : Kind → Cell → ℕ → Cell → ℕ → Type 0
+BallWithin kd c r d s = (o : Cell) → Ball kd c r o → Ball kd d s o
 
 -- inside another: "its ball's cells are all in the other's ball and its depth is no greater"
 pub record Inside (kd : Kind) (q o : Plunge) : Type 0 where
-  pub ball : Within kd (centre q) (q .reach .0) (centre o) (o .reach .0)
+  pub ball : BallWithin kd (centre q) (q .reach .0) (centre o) (o .reach .0)
   pub depth : q .depth ≤ o .depth
 
 abbrev pub inside : Kind → Plunge → Plunge → Bool

@@ -8,9 +8,8 @@ use borrow.Author.Tests.{eq-eqb, eqb-true}
 use lib.Dec.{eqb}
 use lib.ListN.{length}
 use Rattle.refusal.specs.declared.Refusal.{Refusal}
-use Rattle.refusal.specs.declared.Verdict.{Verdict}
 use Rattle.refusal.specs.declared.Verdict.the-variants.{Accepted, Refused}
-use Rattle.trail.specs.Sent.{common}
+use Rattle.geometry.specs.Lists.{common}
 use Rattle.jobs.specs.Calls.{alike}
 
 pub refused-not : {A : Type 0} (r : Refusal) → Refused r ≡ Accepted → A

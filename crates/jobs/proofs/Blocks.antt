@@ -14,13 +14,13 @@ join [] ps = []
 join (a ∷ as′) [] = []
 join (a ∷ as′) (p ∷ ps) = record { answered = a; listed = encoded p (a .listed); tidied = encoded p (a .tidied) } ∷ join as′ ps
 
-joined : (limit : ℕ) (bs : List Block) → map (filed limit) bs ≡ join (map (answers limit) bs) (map (λ b. b .plate) bs)
-joined limit [] = refl
-joined limit (b ∷ bs) = ap (λ (l : List Filed). filed limit b ∷ l) (joined limit bs)
+joinedFiles : (limit : ℕ) (bs : List Block) → map (filed limit) bs ≡ join (map (answers limit) bs) (map (λ b. b .plate) bs)
+joinedFiles limit [] = refl
+joinedFiles limit (b ∷ bs) = ap (λ (l : List Filed). filed limit b ∷ l) (joinedFiles limit bs)
 
 computed : join (map (λ b. b .asked) blocks) (map (λ b. b .plate) blocks) ≡ asked blocks files
 unfolding encoded
 computed = refl
 
 pub files-hold : (limit : ℕ) → 2 ≤ limit → map (filed limit) blocks ≡ asked blocks files
-files-hold limit h = joined limit blocks ∙ ap (λ (l : List Answers). join l (map (λ b. b .plate) blocks)) (blocks-hold limit h) ∙ computed
+files-hold limit h = joinedFiles limit blocks ∙ ap (λ (l : List Answers). join l (map (λ b. b .plate) blocks)) (blocks-hold limit h) ∙ computed

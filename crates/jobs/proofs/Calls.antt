@@ -3,7 +3,7 @@ use mathlib.Core.Path.{_≡_, refl, sym, ap, ap₂, _∙_, subst, fun-ext}
 use mathlib.Core.Logic.{_⊎_, inl, inr}
 use mathlib.Core.Bool.{Bool, true, false, cond, not}
 use mathlib.Core.List.{List, [], _∷_, _++_}
-use Prim.Native.Nat.{ℕ, _+_, _*_, _≤_, _<_, min}
+use Prim.Native.Nat.{ℕ, _*_, _≤_, _<_, min}
 use native.Mathlib.Omega.{arith}
 use borrow.Author.Tests.{lt-ltb, le-ltb}
 use lib.Dec.{ltb}
@@ -18,24 +18,25 @@ use Rattle.theory.proofs.Canonical.{listing-same}
 use Rattle.refusal.specs.declared.Refusal.{Refusal}
 use Rattle.refusal.specs.declared.Verdict.{Verdict}
 use Rattle.refusal.specs.declared.Verdict.the-variants.{Accepted, Refused}
-use Rattle.refusal.specs.Refusals.{Trial, trial, firstMet, short, mapTrials, headOf, largestSide, largestRung, free, written, Answered, Worked}
+use Rattle.refusal.specs.Refusals.{Trial, trial, firstMet, short, mapTrials, headOf, largestSide, largestErosion, free, written, Answered, Worked}
 use Rattle.refusal.proofs.Refusals.{shortest-two, same-verdict, map-sound}
 use Rattle.reading.proofs.Steps.{andThen, first-append}
-use Rattle.buffers.specs.Fill.{Mapped}
+use Rattle.buffers.specs.Fill.{Mapped, PlateOnly}
 use Rattle.buffers.proofs.Fill.{mapped-bytes, surplus-drop}
-use Rattle.climb.specs.Pairs.{Kept}
 use Rattle.fields.specs.Fields.{encoded, fileLength}
 use Rattle.reading.specs.Reading.{IsReadable, fileTrials, headIn, plungesUpTo, total}
 use Rattle.reading.specs.declared.Job.{Job}
 use Rattle.reading.proofs.Readable.{readable-sound}
 use Rattle.reading.proofs.Answers.{after-file, file-fault, WasRead}
-use Rattle.rows.specs.Start.{Sides}
+use Rattle.refusal.specs.Sides.{Sides}
 use Rattle.drawing.specs.Files.{Drawable}
-use Rattle.trail.specs.Sent.{common}
+use Rattle.geometry.specs.Lists.{common}
 use Rattle.listing.specs.declared.ListAnswer.{ListAnswer}
-use Rattle.listing.specs.declared.ListAnswer.the-variants.{Listed, Unlisted}
-use Rattle.listing.specs.Calls.{roomTrials, listAnswer, ListedInto}
-use Rattle.jobs.specs.Calls.{relief, plateTrial, drawVerdict, Listing, listed, listVerdict, ListCall, tidiedPlunges, tidied, tidyVerdict, TidyCall, alike, checkVerdict, Comparable, Compared, CheckCall}
+use Rattle.listing.specs.declared.ListAnswer.the-variants.{Unlisted}
+use Rattle.listing.specs.Staging.{ListedInto}
+use Rattle.listing.specs.Answers.{roomTrials, listAnswer}
+use Rattle.jobs.specs.Calls.{relief, plateTrial, drawVerdict, Listing, listed, listVerdict, ListCall, tidiedPlunges, tidied, tidyVerdict, TidyCall, alike, checkVerdict, CheckCall}
+use Rattle.jobs.specs.Comparing.{Comparable, Compared}
 
 -- ---- the plate's buffers
 
@@ -54,10 +55,12 @@ long-one w h a l = rw (le-ltb a (h * w) l)
 
 -- of a readable file: 4, then the rest
 module _ (f : List ℕ) (lengths : List ℕ) (more : List Trial) where
-  pub plate-fault : IsReadable f → short (headIn f .width) (headIn f .height) lengths ≡ true → firstMet (fileTrials f ++ (plateTrial f lengths ∷ more)) ≡ Refused (record { number = 4; place = 0 })
+  pub plate-fault : IsReadable f → short (headIn f .width) (headIn f .height) lengths ≡ true
+      → firstMet (fileTrials f ++ (plateTrial f lengths ∷ more)) ≡ Refused (record { number = 4; place = 0 })
   plate-fault e s = after-file f (plateTrial f lengths ∷ more) e ∙ rw s
 
-  pub no-fault : IsReadable f → short (headIn f .width) (headIn f .height) lengths ≡ false → firstMet (fileTrials f ++ (plateTrial f lengths ∷ more)) ≡ firstMet more
+  pub no-fault : IsReadable f → short (headIn f .width) (headIn f .height) lengths ≡ false
+      → firstMet (fileTrials f ++ (plateTrial f lengths ∷ more)) ≡ firstMet more
   no-fault e s = after-file f (plateTrial f lengths ∷ more) e ∙ rw s
 
 -- ---- buffers
@@ -65,10 +68,15 @@ module _ (f : List ℕ) (lengths : List ℕ) (more : List Trial) where
 pub worked-none : (v : Verdict) (n : ℕ) (a : List ℕ) → Worked v n a a
 worked-none v n a = record { same = refl; surplus = refl; kept = λ h. refl }
 
-pub worked-free : (v : Verdict) (p : Head) (a a′ : List ℕ) → free v ≡ true → Kept p a a′ → Worked v (area p) a a′
-worked-free v p a a′ e k = record { same = k .same; surplus = surplus-drop p (λ c. 0) a a′ (k .same) (k .surplus); kept = λ h. let z : _≡_ {A = ℕ} 0 1 = cc in absurd (omega arith) }
+pub worked-free : (v : Verdict) (p : Head) (a a′ : List ℕ) → free v ≡ true → PlateOnly p a a′ → Worked v (area p) a a′
+worked-free v p a a′ e k = record {
+  same = k .same;
+  surplus = surplus-drop p (λ c. 0) a a′ (k .same) (k .surplus);
+  kept =
+      λ h. let z : _≡_ {A = ℕ} 0 1 = cc in absurd (omega arith);
+}
 
-pub kept-mapped : (p : Head) (g : Cell → ℕ) (a a′ : List ℕ) → Mapped p g a a′ → Kept p a a′
+pub kept-mapped : (p : Head) (g : Cell → ℕ) (a a′ : List ℕ) → Mapped p g a a′ → PlateOnly p a a′
 kept-mapped p g a a′ m = record { same = m .same; surplus = m .surplus }
 
 -- after acceptance and after 5 work bytes are free
@@ -88,8 +96,10 @@ listing-refused v q p qs out a b e =
       second = worked-none v (area p) b;
     }
 
-pub listing-done : (v : Verdict) (p : Head) (qs : List Plunge) (out out′ a a′ b b′ : List ℕ) (r : ListAnswer) → v ≡ firstMet (roomTrials (fileLength (length qs)) out)
-    → r ≡ listAnswer (firstMet (roomTrials (fileLength (length qs)) out)) qs → out′ ≡ written (firstMet (roomTrials (fileLength (length qs)) out)) (encoded p qs) out → Kept p a a′ → Kept p b b′
+pub listing-done : (v : Verdict) (p : Head) (qs : List Plunge) (out out′ a a′ b b′ : List ℕ) (r : ListAnswer)
+    → v ≡ firstMet (roomTrials (fileLength (length qs)) out)
+    → r ≡ listAnswer (firstMet (roomTrials (fileLength (length qs)) out)) qs
+    → out′ ≡ written (firstMet (roomTrials (fileLength (length qs)) out)) (encoded p qs) out → PlateOnly p a a′ → PlateOnly p b b′
     → Listing v p qs out out′ a a′ b b′ r
 listing-done v p qs out out′ a a′ b b′ r e h l x y =
     record {
@@ -109,18 +119,20 @@ mapped-at p g old new m = fun-ext (λ c. go c (on-or-off p c))
   where
     go : (c : Cell) → On p c ⊎ ((n : List ℕ) → at p n c ≡ 0) → at p new c ≡ at p (tabulated p g) c
     go c (inl o) =
-        subst (λ d. at p new d ≡ g d) (sym (o .is)) (at-cell p new (o .column) (o .row) (o .left) (o .upper) ∙ m .holds (o .column) (o .row) (o .left) (o .upper))
+        subst (λ d. at p new d ≡ g d) (sym (o .is))
+        (at-cell p new (o .column) (o .row) (o .left) (o .upper) ∙ m .holds (o .column) (o .row) (o .left) (o .upper))
         ∙ sym (at-tabulated p g c o)
     go c (inr z) = z new ∙ sym (z _)
 
 -- what is drawn in a buffer lists as the file's relief does
 pub drawn-lists : (f : List ℕ) (p : Head) (n : ℕ) (old new : List ℕ) → p ≡ headIn f → n ≡ total f → Mapped p (drawn (p .kind) (plungesUpTo n f)) old new
-    → listing p largestRung new ≡ listing (headIn f) largestRung (relief f)
+    → listing p largestErosion new ≡ listing (headIn f) largestErosion (relief f)
 drawn-lists f p n old new e l m =
-    listing-same p largestRung new (tabulated p (drawn (p .kind) (plungesUpTo n f))) (mapped-at p (drawn (p .kind) (plungesUpTo n f)) old new m)
-    ∙ ap₂ (λ (h : Head) (k : ℕ). listing h largestRung (tabulated h (drawn (h .kind) (plungesUpTo k f)))) e l
+    listing-same p largestErosion new (tabulated p (drawn (p .kind) (plungesUpTo n f))) (mapped-at p (drawn (p .kind) (plungesUpTo n f)) old new m)
+    ∙ ap₂ (λ (h : Head) (k : ℕ). listing h largestErosion (tabulated h (drawn (h .kind) (plungesUpTo k f)))) e l
 
-pub drawn-bytes : (f : List ℕ) (p : Head) (n : ℕ) (old new : List ℕ) → p ≡ headIn f → n ≡ total f → area p ≤ length old → Mapped p (drawn (p .kind) (plungesUpTo n f)) old new
+pub drawn-bytes : (f : List ℕ) (p : Head) (n : ℕ) (old new : List ℕ) → p ≡ headIn f → n ≡ total f → area p ≤ length old
+    → Mapped p (drawn (p .kind) (plungesUpTo n f)) old new
     → new ≡ relief f ++ drop (length (relief f)) old
 drawn-bytes f p n old new e l h m =
     mapped-bytes p (drawn (p .kind) (plungesUpTo n f)) old new h m
@@ -164,8 +176,11 @@ module _ (f : List ℕ) (j : Job) (w : WasRead (firstMet (fileTrials f)) f j) wh
   draw-asks =
       let s = readable-sound f (w .verdict) in
       let sides : Sides (headIn f) = record { wide = s .wide; narrow = s .narrow; tall = s .tall; low = s .low } in
-      let drawable : Drawable (headIn f) (total f) f = record { room = omega (arith, s .room); fits = s .fits } in
-      (subst Sides (sym (w .head)) sides, subst (λ (n : ℕ). Drawable (j .head) n f) (sym (w .plunges)) (subst (λ (h : Head). Drawable h (total f) f) (sym (w .head)) drawable))
+      let drawable : Drawable (headIn f) (total f) f = record { room = omega (arith, s .room); fits = s .fits } in (
+        subst Sides (sym (w .head)) sides,
+        subst (λ (n : ℕ). Drawable (j .head) n f) (sym (w .plunges))
+            (subst (λ (h : Head). Drawable h (total f) f) (sym (w .head)) drawable),
+      )
 
   -- the buffers that the head asks for
   module _ (lengths : List ℕ) where
@@ -176,13 +191,22 @@ module _ (f : List ℕ) (j : Job) (w : WasRead (firstMet (fileTrials f)) f j) wh
     long-of = subst (λ (h : Head). short (h .width) (h .height) lengths ≡ false) (w .head)
 
   -- drawing
-  pub draw-short : (out : List ℕ) (q : Refusal) → q ≡ record { number = 4; place = 0 } → length out < area (j .head) → Answered (drawVerdict f out) (relief f) out out (Refused q)
-  draw-short out q e l = answered-refused (drawVerdict f out) q (relief f) out (plate-fault f (length out ∷ []) [] (w .verdict) (short-of (length out ∷ []) (short-one (j .head .width) (j .head .height) (length out) l)) ∙ sym (ap Refused e))
+  pub draw-short : (out : List ℕ) (q : Refusal) → q ≡ record { number = 4; place = 0 } → length out < area (j .head)
+      → Answered (drawVerdict f out) (relief f) out out (Refused q)
+  draw-short out q e l = answered-refused (drawVerdict f out) q (relief f) out
+      (plate-fault f (length out ∷ []) [] (w .verdict) (short-of (length out ∷ []) (short-one (j .head .width) (j .head .height) (length out) l))
+      ∙ sym (ap Refused e))
 
-  pub draw-done : (out out′ : List ℕ) → area (j .head) ≤ length out → Mapped (j .head) (drawn (j .head .kind) (plungesUpTo (j .plunges) f)) out out′ → Answered (drawVerdict f out) (relief f) out out′ Accepted
+  pub draw-done : (out out′ : List ℕ) → area (j .head) ≤ length out → Mapped (j .head) (drawn (j .head .kind) (plungesUpTo (j .plunges) f)) out out′
+      → Answered (drawVerdict f out) (relief f) out out′ Accepted
   draw-done out out′ l m =
-      let v : drawVerdict f out ≡ Accepted = no-fault f (length out ∷ []) [] (w .verdict) (long-of (length out ∷ []) (long-one (j .head .width) (j .head .height) (length out) l)) in
-      record { answer = sym v; bytes = drawn-bytes f (j .head) (j .plunges) out out′ (w .head) (w .plunges) l m ∙ sym (ap (λ (u : Verdict). written u (relief f) out) v) }
+      let v : drawVerdict f out ≡ Accepted = no-fault f (length out ∷ []) [] (w .verdict)
+      (long-of (length out ∷ []) (long-one (j .head .width) (j .head .height) (length out) l)) in
+      record {
+        answer = sym v;
+        bytes = drawn-bytes f (j .head) (j .plunges) out out′ (w .head) (w .plunges) l m ∙ sym
+            (ap (λ (u : Verdict). written u (relief f) out) v);
+      }
 
   -- tidying
   module _ (out a b c : List ℕ) (n : ℕ) (e : n ≡ min (min (length a) (length b)) (length c)) where
@@ -190,18 +214,23 @@ module _ (f : List ℕ) (j : Job) (w : WasRead (firstMet (fileTrials f)) f j) wh
     works = length a ∷ length b ∷ length c ∷ []
 
     pub tidy-short : (q : Refusal) → q ≡ record { number = 4; place = 0 } → n < area (j .head) → TidyCall f out out a a b b c c (Unlisted q)
-    tidy-short q g l = tidy-refused f q out a b c (plate-fault f works _ (w .verdict) (short-of works (short-three (j .head .width) (j .head .height) (length a) (length b) (length c) n e l)) ∙ sym (ap Refused g))
+    tidy-short q g l = tidy-refused f q out a b c
+        (plate-fault f works _ (w .verdict) (short-of works (short-three (j .head .width) (j .head .height) (length a) (length b) (length c) n e l))
+        ∙ sym (ap Refused g))
 
     pub works-long : area (j .head) ≤ n → short (headIn f .width) (headIn f .height) works ≡ false
     works-long l = long-of works (long-three (j .head .width) (j .head .height) (length a) (length b) (length c) n e l)
 
     pub tidy-done : area (j .head) ≤ n → (out′ a′ b′ c′ : List ℕ) (r : ListAnswer) → Mapped (j .head) (drawn (j .head .kind) (plungesUpTo (j .plunges) f)) c c′
-        → ListedInto (j .head) c′ out out′ r → Kept (j .head) a a′ → Kept (j .head) b b′ → TidyCall f out out′ a a′ b b′ c c′ r
+        → ListedInto (j .head) c′ out out′ r → PlateOnly (j .head) a a′ → PlateOnly (j .head) b b′ → TidyCall f out out′ a a′ b b′ c c′ r
     tidy-done l out′ a′ b′ c′ r m d x y =
         record {
-          list = listing-done v (headIn f) (tidiedPlunges f) out out′ a a′ b b′ r verdict (into .answer ∙ ap (λ (qs : List Plunge). listAnswer (firstMet (roomTrials (fileLength (length qs)) out)) qs) lists)
-              (into .bytes ∙ ap (λ (qs : List Plunge). written (firstMet (roomTrials (fileLength (length qs)) out)) (encoded (headIn f) qs) out) lists) (moved a a′ x) (moved b b′ y);
-          third = worked-free v (headIn f) c c′ (ap free verdict ∙ room-free (fileLength (length (tidiedPlunges f))) out) (moved c c′ (kept-mapped (j .head) _ c c′ m));
+          list = listing-done v (headIn f) (tidiedPlunges f) out out′ a a′ b b′ r verdict
+              (into .answer ∙ ap (λ (qs : List Plunge). listAnswer (firstMet (roomTrials (fileLength (length qs)) out)) qs) lists)
+              (into .bytes ∙ ap (λ (qs : List Plunge). written (firstMet (roomTrials (fileLength (length qs)) out)) (encoded (headIn f) qs) out)
+              lists) (moved a a′ x) (moved b b′ y);
+          third = worked-free v (headIn f) c c′ (ap free verdict ∙ room-free (fileLength (length (tidiedPlunges f))) out)
+              (moved c c′ (kept-mapped (j .head) _ c c′ m));
         }
       where
         v : Verdict
@@ -213,17 +242,20 @@ module _ (f : List ℕ) (j : Job) (w : WasRead (firstMet (fileTrials f)) f j) wh
         into : ListedInto (headIn f) c′ out out′ r
         into = subst (λ (h : Head). ListedInto h c′ out out′ r) (w .head) d
 
-        lists : listing (headIn f) largestRung c′ ≡ tidiedPlunges f
-        lists = ap (λ (h : Head). listing h largestRung c′) (sym (w .head)) ∙ drawn-lists f (j .head) (j .plunges) c c′ (w .head) (w .plunges) m
+        lists : listing (headIn f) largestErosion c′ ≡ tidiedPlunges f
+        lists = ap (λ (h : Head). listing h largestErosion c′) (sym (w .head)) ∙ drawn-lists f (j .head) (j .plunges) c c′ (w .head) (w .plunges) m
 
-        moved : (s s′ : List ℕ) → Kept (j .head) s s′ → Kept (headIn f) s s′
-        moved s s′ = subst (λ (h : Head). Kept h s s′) (w .head)
+        moved : (s s′ : List ℕ) → PlateOnly (j .head) s s′ → PlateOnly (headIn f) s s′
+        moved s s′ = subst (λ (h : Head). PlateOnly h s s′) (w .head)
 
     -- the check
     pub check-short : (q : Refusal) → q ≡ record { number = 4; place = 0 } → n < area (j .head) → CheckCall f a a b b c c (Refused q)
-    check-short q g l = check-refused f q a b c (plate-fault f works _ (w .verdict) (short-of works (short-three (j .head .width) (j .head .height) (length a) (length b) (length c) n e l)) ∙ sym (ap Refused g))
+    check-short q g l = check-refused f q a b c
+        (plate-fault f works _ (w .verdict) (short-of works (short-three (j .head .width) (j .head .height) (length a) (length b) (length c) n e l))
+        ∙ sym (ap Refused g))
 
-    pub check-asks : area (j .head) ≤ n → ((i : ℕ) → getD f i 0 < 256) → (c′ : List ℕ) → Mapped (j .head) (drawn (j .head .kind) (plungesUpTo (j .plunges) f)) c c′ → Comparable (j .head) (j .plunges) f c′ a b
+    pub check-asks : area (j .head) ≤ n → ((i : ℕ) → getD f i 0 < 256) → (c′ : List ℕ)
+        → Mapped (j .head) (drawn (j .head .kind) (plungesUpTo (j .plunges) f)) c c′ → Comparable (j .head) (j .plunges) f c′ a b
     check-asks l bs c′ m =
         record {
           readable = w .verdict;
@@ -237,7 +269,7 @@ module _ (f : List ℕ) (j : Job) (w : WasRead (firstMet (fileTrials f)) f j) wh
         }
 
     pub check-done : area (j .head) ≤ n → (a′ b′ c′ : List ℕ) (r : Verdict) → Mapped (j .head) (drawn (j .head .kind) (plungesUpTo (j .plunges) f)) c c′
-        → Compared f r → Kept (j .head) a a′ → Kept (j .head) b b′ → CheckCall f a a′ b b′ c c′ r
+        → Compared f r → PlateOnly (j .head) a a′ → PlateOnly (j .head) b b′ → CheckCall f a a′ b b′ c c′ r
     check-done l a′ b′ c′ r m d x y =
         record {
           answer = d ∙ sym verdict;
@@ -259,33 +291,41 @@ module _ (f : List ℕ) (j : Job) (w : WasRead (firstMet (fileTrials f)) f j) wh
             go true = refl
             go false = refl
 
-        moved : (s s′ : List ℕ) → Kept (j .head) s s′ → Kept (headIn f) s s′
-        moved s s′ = subst (λ (h : Head). Kept h s s′) (w .head)
+        moved : (s s′ : List ℕ) → PlateOnly (j .head) s s′ → PlateOnly (headIn f) s s′
+        moved s s′ = subst (λ (h : Head). PlateOnly h s s′) (w .head)
 
 -- ---- listing
 
-module _ (m : List ℕ) (k w h : ℕ) (out a b : List ℕ) (n : ℕ) (v : Verdict) (e : n ≡ min (min (length m) (length a)) (length b)) (g : v ≡ firstMet (mapTrials k w h false (n ∷ []))) where
+module _ (m : List ℕ) (k w h : ℕ) (out a b : List ℕ) (n : ℕ) (v : Verdict) (e : n ≡ min (min (length m) (length a)) (length b)) (g : v ≡ firstMet
+    (mapTrials k w h false (n ∷ []))) where
   judged : firstMet (mapTrials k w h false (length m ∷ length a ∷ length b ∷ [])) ≡ v
   judged =
       same-verdict k w h false (length m ∷ length a ∷ length b ∷ []) (n ∷ [])
-      (shortest-two (h * w) (length m) (length a) (length b ∷ []) ∙ shortest-two (h * w) (min (length m) (length a)) (length b) [] ∙ ap (λ (i : ℕ). short w h (i ∷ [])) (sym e))
+      (shortest-two (h * w) (length m) (length a) (length b ∷ []) ∙ shortest-two (h * w) (min (length m) (length a)) (length b) [] ∙ ap
+      (λ (i : ℕ). short w h (i ∷ [])) (sym e))
       ∙ sym g
 
   verdict : listVerdict m k w h out a b ≡ andThen v (firstMet (roomTrials (fileLength (length (listed m k w h))) out))
-  verdict = first-append (mapTrials k w h false (length m ∷ length a ∷ length b ∷ [])) (roomTrials (fileLength (length (listed m k w h))) out) ∙ ap (λ (u : Verdict). andThen u (firstMet (roomTrials (fileLength (length (listed m k w h))) out))) judged
+  verdict = first-append (mapTrials k w h false (length m ∷ length a ∷ length b ∷ [])) (roomTrials (fileLength (length (listed m k w h))) out) ∙ ap
+      (λ (u : Verdict). andThen u (firstMet (roomTrials (fileLength (length (listed m k w h))) out))) judged
 
   pub list-refused : (q : Refusal) → v ≡ Refused q → ListCall m k w h out out a a b b (Unlisted q)
-  list-refused q l = listing-refused (listVerdict m k w h out a b) q (headOf k w h) (listed m k w h) out a b (verdict ∙ ap (λ (u : Verdict). andThen u (firstMet (roomTrials (fileLength (length (listed m k w h))) out))) l)
+  list-refused q l = listing-refused (listVerdict m k w h out a b) q (headOf k w h) (listed m k w h) out a b
+      (verdict ∙ ap (λ (u : Verdict). andThen u (firstMet (roomTrials (fileLength (length (listed m k w h))) out))) l)
 
   -- what the listing asks
-  pub list-asks : v ≡ Accepted → (p : Head) → p ≡ headOf k w h → (1 ≤ p .width) × (p .width ≤ largestSide) × (p .height ≤ largestSide) × (area p ≤ length m) × (area p ≤ length a) × (area p ≤ length b)
+  pub list-asks : v ≡ Accepted → (p : Head) → p ≡ headOf k w h → (1 ≤ p .width) × (p .width ≤ largestSide) × (p .height ≤ largestSide)
+      × (area p ≤ length m) × (area p ≤ length a) × (area p ≤ length b)
   list-asks l p i =
       let s = map-sound k w h false n (sym g ∙ l) in
-      subst (λ (q : Head). (1 ≤ q .width) × (q .width ≤ largestSide) × (q .height ≤ largestSide) × (area q ≤ length m) × (area q ≤ length a) × (area q ≤ length b)) (sym i)
+      subst (λ (q : Head). (1 ≤ q .width) × (q .width ≤ largestSide) × (q .height ≤ largestSide) × (area q ≤ length m) × (area q ≤ length a)
+      × (area q ≤ length b)) (sym i)
       (s .wide, s .narrow, s .low, omega (arith, s .long), omega (arith, s .long), omega (arith, s .long))
 
-  pub list-done : v ≡ Accepted → (p : Head) → p ≡ headOf k w h → (out′ a′ b′ : List ℕ) (r : ListAnswer) → ListedInto p m out out′ r → Kept p a a′ → Kept p b b′ → ListCall m k w h out out′ a a′ b b′ r
+  pub list-done : v ≡ Accepted → (p : Head) → p ≡ headOf k w h → (out′ a′ b′ : List ℕ) (r : ListAnswer) → ListedInto p m out out′ r
+      → PlateOnly p a a′ → PlateOnly p b b′ → ListCall m k w h out out′ a a′ b b′ r
   list-done l p i out′ a′ b′ r d x y =
       let into : ListedInto (headOf k w h) m out out′ r = subst (λ (q : Head). ListedInto q m out out′ r) i d in
-      listing-done (listVerdict m k w h out a b) (headOf k w h) (listed m k w h) out out′ a a′ b b′ r (verdict ∙ ap (λ (u : Verdict). andThen u (firstMet (roomTrials (fileLength (length (listed m k w h))) out))) l)
-      (into .answer) (into .bytes) (subst (λ (q : Head). Kept q a a′) i x) (subst (λ (q : Head). Kept q b b′) i y)
+      listing-done (listVerdict m k w h out a b) (headOf k w h) (listed m k w h) out out′ a a′ b b′ r
+      (verdict ∙ ap (λ (u : Verdict). andThen u (firstMet (roomTrials (fileLength (length (listed m k w h))) out))) l)
+      (into .answer) (into .bytes) (subst (λ (q : Head). PlateOnly q a a′) i x) (subst (λ (q : Head). PlateOnly q b b′) i y)

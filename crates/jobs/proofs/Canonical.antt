@@ -2,7 +2,7 @@
 use mathlib.Core.Path.{_≡_, refl, sym, ap, ap₂, _∙_, subst}
 use mathlib.Core.Logic.{_⊎_, inl, inr, _↔_}
 use mathlib.Core.Bool.{Bool, true, false, cond, not}
-use mathlib.Core.List.{List, [], _∷_, _++_, List·Memᴰ, List·Memᴰ·head, List·Memᴰ·tail, List·Memᴰ·not-nil}
+use mathlib.Core.List.{List, [], _∷_, List·Memᴰ, List·Memᴰ·head, List·Memᴰ·tail, List·Memᴰ·not-nil}
 use Prim.Native.Nat.{ℕ, _+_, _*_, _≤_, _<_, min}
 use native.Mathlib.Omega.{arith}
 use lib.ListN.{length, take, drop}
@@ -12,8 +12,8 @@ use Rattle.geometry.specs.declared.Head.{Head}
 use Rattle.geometry.specs.declared.Plunge.{Plunge}
 use Rattle.geometry.specs.Plane.{Cell}
 use Rattle.geometry.specs.Plate.{On, at}
-use Rattle.geometry.specs.Plunges.{Inside, fitsPlate}
-use Rattle.theory.specs.Listing.{Fits, Maximal, Rising, listing, drawn, drawing, canonical}
+use Rattle.geometry.specs.Plunges.{fitsPlate}
+use Rattle.theory.specs.Listing.{Fits, Maximal, Rising, drawn, drawing, canonical}
 use Rattle.theory.proofs.Lists.{gather-out}
 use Rattle.theory.proofs.Plate.{on-or-off, at-tabulated}
 use Rattle.theory.proofs.Plunges.{fitsPlate-iff}
@@ -21,21 +21,19 @@ use Rattle.theory.proofs.Listing.{listed-fits, listed-iff-maximal, fits-inside}
 use Rattle.theory.proofs.Order.{listing-rising}
 use Rattle.theory.proofs.Drawing.{le-drawn}
 use Rattle.theory.proofs.Canonical.{canonical-iff, canonical-draws, canonical-twice}
-use Rattle.refusal.specs.declared.Refusal.{Refusal}
 use Rattle.refusal.specs.declared.Verdict.{Verdict}
 use Rattle.refusal.specs.declared.Verdict.the-variants.{Accepted, Refused}
-use Rattle.refusal.specs.Refusals.{Trial, trial, firstMet, largestRung, written}
+use Rattle.refusal.specs.Refusals.{trial, firstMet, largestErosion, written}
 use Rattle.fields.specs.Fields.{encoded, fileLength}
 use Rattle.fields.proofs.Encoding.{encoded-injective, encoded-length}
 use Rattle.reading.proofs.Answers.{after-file, file-read}
 use Rattle.reading.proofs.Readable.{Sound, readable-sound, Writable, encoded-readable, encoded-head, encoded-plunges}
-use Rattle.reading.specs.Reading.{IsReadable, fileTrials, headIn, plungesIn, plungeAt, place, total}
+use Rattle.reading.specs.Reading.{IsReadable, headIn, plungesIn, plungeAt, place, total}
 use Rattle.listing.specs.declared.Extent.{Extent}
-use Rattle.listing.specs.declared.ListAnswer.{ListAnswer}
-use Rattle.listing.specs.declared.ListAnswer.the-variants.{Listed, Unlisted}
-use Rattle.trail.specs.Sent.{common}
-use Rattle.listing.specs.Calls.{roomTrials, listAnswer}
-use Rattle.jobs.specs.Calls.{relief, tidiedPlunges, tidied, workTrial, tidyVerdict, alike, checkVerdict}
+use Rattle.listing.specs.declared.ListAnswer.the-variants.{Listed}
+use Rattle.geometry.specs.Lists.{common}
+use Rattle.listing.specs.Answers.{listAnswer}
+use Rattle.jobs.specs.Calls.{relief, tidiedPlunges, tidied, tidyVerdict, alike, checkVerdict}
 use Rattle.jobs.specs.Canonical.{Tidying, file, Checking, SamePlate, SameRelief, Canonical, CanonicalForm}
 use Rattle.jobs.proofs.Alike.{refused-not, alike-same, alike-equal}
 use Rattle.jobs.proofs.Lengths.{listing-few}
@@ -69,7 +67,7 @@ module _ (f : List ℕ) (ok : IsReadable f) where
   sound : Sound f
   sound = readable-sound f ok
 
-  sides : min (headIn f .width) (headIn f .height) ≤ 2 * largestRung
+  sides : min (headIn f .width) (headIn f .height) ≤ 2 * largestErosion
   sides = omega (arith, sound .narrow)
 
   good : Writable (headIn f) (tidiedPlunges f)
@@ -80,7 +78,7 @@ module _ (f : List ℕ) (ok : IsReadable f) where
         tall = sound .tall;
         low = sound .low;
         few = listing-few (headIn f) (relief f) (sound .narrow) (sound .low);
-        right = λ q i. let h = listed-fits (headIn f) largestRung (relief f) q i in (fitsPlate-iff (headIn f) q .1 (h .wholly), h .some);
+        right = λ q i. let h = listed-fits (headIn f) largestErosion (relief f) q i in (fitsPlate-iff (headIn f) q .1 (h .wholly), h .some);
       }
 
   head-same : headIn (tidied f) ≡ headIn f
@@ -93,12 +91,12 @@ module _ (f : List ℕ) (ok : IsReadable f) where
   relief-same = ap₂ drawing head-same plunges-same
 
   pub draws-again : (c : Cell) → at (headIn (tidied f)) (relief (tidied f)) c ≡ at (headIn f) (relief f) c
-  draws-again c = ap₂ (λ (h : Head) (m : List ℕ). at h m c) head-same relief-same ∙ canonical-draws (headIn f) largestRung sides (plungesIn f) c
+  draws-again c = ap₂ (λ (h : Head) (m : List ℕ). at h m c) head-same relief-same ∙ canonical-draws (headIn f) largestErosion sides (plungesIn f) c
 
   pub tidied-twice : tidied (tidied f) ≡ tidied f
   tidied-twice =
-      ap₂ (λ (h : Head) (qs : List Plunge). encoded h (canonical h largestRung qs)) head-same plunges-same
-      ∙ ap (encoded (headIn f)) (canonical-twice (headIn f) largestRung sides (plungesIn f))
+      ap₂ (λ (h : Head) (qs : List Plunge). encoded h (canonical h largestErosion qs)) head-same plunges-same
+      ∙ ap (encoded (headIn f)) (canonical-twice (headIn f) largestErosion sides (plungesIn f))
 
   -- each plunge of the file fits under the relief that the file draws
   pub original-fits : (q : Plunge) → List·Memᴰ q (plungesIn f) → Fits (headIn f) (relief f) q
@@ -110,7 +108,11 @@ module _ (f : List ℕ) (ok : IsReadable f) where
           record {
             wholly = whole;
             some = subst (λ (o : Plunge). 1 ≤ o .depth) (sym e) (sound .deep j (omega arith));
-            deep = λ o h. omega (arith, le-drawn (headIn f .kind) (plungesIn f) o i h, at-tabulated (headIn f) (drawn (headIn f .kind) (plungesIn f)) o (whole o h));
+            deep = λ o h. omega (
+              arith,
+              le-drawn (headIn f .kind) (plungesIn f) o i h,
+              at-tabulated (headIn f) (drawn (headIn f .kind) (plungesIn f)) o (whole o h),
+            );
           }
         where
           whole : Rattle.geometry.specs.Plunges.OnPlate (headIn f) q
@@ -118,7 +120,10 @@ module _ (f : List ℕ) (ok : IsReadable f) where
 
   -- the check's answer, with work buffers long enough
   pub check-is : (s : Checking f) → (s .answer ≡ Accepted) ↔ (tidied f ≡ f)
-  check-is s = (λ e. sym (alike-equal f (tidied f) (back (alike f (tidied f)) (sym verdict ∙ sym (s .call .answer) ∙ e))), λ e. s .call .answer ∙ verdict ∙ ap last (alike-same f (tidied f) (sym e)))
+  check-is s = (
+    λ e. sym (alike-equal f (tidied f) (back (alike f (tidied f)) (sym verdict ∙ sym (s .call .answer) ∙ e))),
+    λ e. s .call .answer ∙ verdict ∙ ap last (alike-same f (tidied f) (sym e)),
+  )
     where
       last : Bool → Verdict
       last b = firstMet (trial (not b) 12 (common f (tidied f)) ∷ [])
@@ -135,11 +140,13 @@ module _ (f : List ℕ) (ok : IsReadable f) where
       record {
         head = head-same;
         plunges = plunges-same;
-        order = subst Rising (sym plunges-same) (listing-rising (headIn f) largestRung (relief f));
+        order = subst Rising (sym plunges-same) (listing-rising (headIn f) largestErosion (relief f));
         readable = encoded-readable (headIn f) (tidiedPlunges f) good;
         draws = draws-again;
-        maximal = λ q. subst (λ (qs : List Plunge). List·Memᴰ q qs ↔ Maximal (headIn f) (relief f) q) (sym plunges-same) (listed-iff-maximal (headIn f) largestRung (relief f) sides q);
-        covered = λ q h. let t = fits-inside (headIn f) largestRung (relief f) sides q h in (t .0, subst (λ (qs : List Plunge). List·Memᴰ (t .0) qs) (sym plunges-same) (t .1), t .2);
+        maximal = λ q. subst (λ (qs : List Plunge). List·Memᴰ q qs ↔ Maximal (headIn f) (relief f) q) (sym plunges-same)
+            (listed-iff-maximal (headIn f) largestErosion (relief f) sides q);
+        covered = λ q h. let t = fits-inside (headIn f) largestErosion (relief f) sides q h in
+            (t .0, subst (λ (qs : List Plunge). List·Memᴰ (t .0) qs) (sym plunges-same) (t .1), t .2);
         original = original-fits;
         again = λ t. file-is (tidied f) t ∙ tidied-twice;
         checked = check-is;
@@ -156,7 +163,15 @@ head-ext p q a b c =
 module _ (f g : List ℕ) (okf : IsReadable f) (okg : IsReadable g) where
   -- one list of plunges for each plate: the tidied files are equal exactly when the plates and the reliefs are
   tidied-equal : tidied f ≡ tidied g → SamePlate f g × SameRelief f g
-  tidied-equal e = (record { kinds = ap (λ (h : Head). h .kind) heads; widths = ap (λ (h : Head). h .width) heads; heights = ap (λ (h : Head). h .height) heads }, same)
+  tidied-equal e = (
+    record {
+      kinds = ap (λ (h : Head). h .kind) heads;
+      widths = ap (λ (h : Head). h .width) heads;
+      heights =
+          ap (λ (h : Head). h .height) heads;
+    },
+    same,
+  )
     where
       parts : (headIn f ≡ headIn g) × (tidiedPlunges f ≡ tidiedPlunges g)
       parts = encoded-injective (headIn f) (headIn g) (tidiedPlunges f) (tidiedPlunges g) e
@@ -166,12 +181,12 @@ module _ (f g : List ℕ) (okf : IsReadable f) (okg : IsReadable g) where
 
       same : SameRelief f g
       same c o =
-          canonical-iff (headIn f) largestRung (sides f okf) (plungesIn f) (plungesIn g) .0
-          (parts .1 ∙ sym (ap (λ (h : Head). canonical h largestRung (plungesIn g)) heads)) c
+          canonical-iff (headIn f) largestErosion (sides f okf) (plungesIn f) (plungesIn g) .0
+          (parts .1 ∙ sym (ap (λ (h : Head). canonical h largestErosion (plungesIn g)) heads)) c
           ∙ ap (λ (h : Head). at h (drawing h (plungesIn g)) c) heads
 
   same-tidied : SamePlate f g → SameRelief f g → tidied f ≡ tidied g
-  same-tidied s r = ap (encoded (headIn f)) lists ∙ ap (λ (h : Head). encoded h (canonical h largestRung (plungesIn g))) heads
+  same-tidied s r = ap (encoded (headIn f)) lists ∙ ap (λ (h : Head). encoded h (canonical h largestErosion (plungesIn g))) heads
     where
       heads : headIn f ≡ headIn g
       heads = head-ext (headIn f) (headIn g) (s .kinds) (s .widths) (s .heights)
@@ -183,8 +198,8 @@ module _ (f g : List ℕ) (okf : IsReadable f) (okg : IsReadable g) where
           go (inl o) = r c o ∙ sym (ap (λ (h : Head). at h (drawing h (plungesIn g)) c) heads)
           go (inr z) = z _ ∙ sym (z _)
 
-      lists : tidiedPlunges f ≡ canonical (headIn f) largestRung (plungesIn g)
-      lists = canonical-iff (headIn f) largestRung (sides f okf) (plungesIn f) (plungesIn g) .1 every
+      lists : tidiedPlunges f ≡ canonical (headIn f) largestErosion (plungesIn g)
+      lists = canonical-iff (headIn f) largestErosion (sides f okf) (plungesIn f) (plungesIn g) .1 every
 
 -- Demand 3: for any two files, each tidied with buffers long enough
 pub canonical-form : {f g : List ℕ} (s : Tidying f) (t : Tidying g) → CanonicalForm s t

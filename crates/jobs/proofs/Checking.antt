@@ -1,11 +1,11 @@
 -- The tidy check: where two files of one head first differ, found among their plunges alone.
 use mathlib.Core.Path.{_≡_, refl, sym, ap, ap₂, _∙_, subst}
 use mathlib.Core.Logic.{_⊎_, inl, inr}
-use mathlib.Core.Bool.{Bool, true, false, cond}
+use mathlib.Core.Bool.{Bool, true, false}
 use mathlib.Core.List.{List, [], _∷_, _++_, append-assoc}
 use Prim.Native.Nat.{ℕ, suc, _+_, _*_, _≤_, _<_}
 use native.Mathlib.Omega.{arith}
-use borrow.Author.Tests.{eq-eqb, ne-eqb, eqb-true, eqb-false}
+use borrow.Author.Tests.{eq-eqb, eqb-true}
 use lib.Dec.{eqb}
 use lib.ListN.{length, drop, getD}
 use Rattle.geometry.specs.declared.Head.{Head}
@@ -13,15 +13,17 @@ use Rattle.geometry.specs.declared.Plunge.{Plunge}
 use Rattle.geometry.specs.Plate.{area}
 use Rattle.theory.specs.Listing.{listing}
 use Rattle.refusal.specs.declared.Verdict.the-variants.{Accepted, Refused}
-use Rattle.refusal.specs.Refusals.{largestSide, largestRung}
+use Rattle.refusal.specs.Refusals.{largestSide, largestErosion}
 use Rattle.fields.specs.Fields.{four, headField, plungeField, plungeFields, endField, encoded}
 use Rattle.fields.proofs.Encoding.{encoded-injective, plungeFields-length}
 use Rattle.reading.proofs.Readable.{readable-encoded, readable-sound, length-plungesIn}
-use Rattle.reading.specs.Reading.{IsReadable, headIn, plungesIn, plungeAt, place, total}
-use Rattle.trail.specs.declared.Trail.{Trail}
-use Rattle.trail.specs.declared.Pass.the-variants.{Compare, Write}
-use Rattle.trail.specs.Sent.{common, Sent, Room}
-use Rattle.jobs.specs.Calls.{tidiedPlunges, tidied, alike, Comparable, Compared}
+use Rattle.reading.specs.Reading.{IsReadable, headIn, plungesIn, place, total}
+use Rattle.listing_pass.specs.declared.Progress.{Progress}
+use Rattle.listing_pass.specs.declared.Pass.the-variants.{Compare}
+use Rattle.listing_pass.specs.Sent.{Sent, Room}
+use Rattle.geometry.specs.Lists.{common}
+use Rattle.jobs.specs.Calls.{tidiedPlunges, tidied, alike}
+use Rattle.jobs.specs.Comparing.{Comparable, Compared}
 use Rattle.jobs.proofs.Alike.{alike-same, alike-equal}
 
 -- ---- the common beginning of two lists that begin with as many numbers
@@ -55,7 +57,12 @@ common-split (a ∷ x) (b ∷ y) u v e = go (common-split x y u v (omega arith))
         ne : a ≡ b → ⊥
         ne h = let z : _≡_ {A = Bool} true false = sym (eq-eqb a b h) ∙ s in let w : _≡_ {A = ℕ} 0 1 = cc in omega arith
     go (inl r) true s = inl (record { equal = ap₂ (λ (n : ℕ) (l : List ℕ). n ∷ l) (eqb-true a b s) (r .equal); more = rw s (omega (arith, r .more)) })
-    go (inr r) true s = inr (record { unlike = λ h. r .unlike (ap tail-of h); stops = rw s (ap suc (r .stops)); short = rw s (let z = r .short in omega arith) })
+    go (inr r) true s = inr (record {
+      unlike = λ h. r .unlike (ap tail-of h);
+      stops = rw s (ap suc (r .stops));
+      short =
+          rw s (let z = r .short in omega arith);
+    })
 
 -- ---- two lists of plunges
 
@@ -71,16 +78,20 @@ pub record Unlike (qs os : List Plunge) (e e′ : List ℕ) : Type 0 where
 field-equal : (q o : Plunge) → plungeField q ≡ plungeField o → q ≡ o
 field-equal q o h =
     ap (λ (n : ℕ). record { column = n; row = q .row; reach = q .reach; depth = q .depth }) (ap (λ (l : List ℕ). head-of (tail-of (tail-of (tail-of l)))) h)
-    ∙ ap (λ (n : ℕ). record { column = o .column; row = n; reach = q .reach; depth = q .depth }) (ap (λ (l : List ℕ). head-of (tail-of (tail-of (tail-of (tail-of l))))) h)
-    ∙ ap (λ (n : ℕ). record { column = o .column; row = o .row; reach = record { 0 = n }; depth = q .depth }) (ap (λ (l : List ℕ). head-of (tail-of (tail-of (tail-of (tail-of (tail-of l)))))) h)
-    ∙ ap (λ (n : ℕ). record { column = o .column; row = o .row; reach = o .reach; depth = n }) (ap (λ (l : List ℕ). head-of (tail-of (tail-of (tail-of (tail-of (tail-of (tail-of l))))))) h)
+    ∙ ap (λ (n : ℕ). record { column = o .column; row = n; reach = q .reach; depth = q .depth })
+    (ap (λ (l : List ℕ). head-of (tail-of (tail-of (tail-of (tail-of l))))) h)
+    ∙ ap (λ (n : ℕ). record { column = o .column; row = o .row; reach = record { 0 = n }; depth = q .depth })
+    (ap (λ (l : List ℕ). head-of (tail-of (tail-of (tail-of (tail-of (tail-of l)))))) h)
+    ∙ ap (λ (n : ℕ). record { column = o .column; row = o .row; reach = o .reach; depth = n })
+    (ap (λ (l : List ℕ). head-of (tail-of (tail-of (tail-of (tail-of (tail-of (tail-of l))))))) h)
 
 pub first-unlike : (qs os : List Plunge) (e e′ : List ℕ) → (qs ≡ os) ⊎ Unlike qs os e e′
 first-unlike [] [] e e′ = inl refl
 first-unlike [] (o ∷ os) e e′ = inr (record { same = refl; short = λ a b. absurd (omega arith) })
 first-unlike (q ∷ qs) [] e e′ = inr (record { same = refl; short = λ a b. absurd (omega arith) })
 first-unlike (q ∷ qs) (o ∷ os) e e′ =
-    go (common-split (plungeField q) (plungeField o) (body qs e) (body os e′) refl) (common-split (plungeField q) (plungeField o) (body qs e) (plungeFields os) refl) (first-unlike qs os e e′)
+    go (common-split (plungeField q) (plungeField o) (body qs e) (body os e′) refl)
+    (common-split (plungeField q) (plungeField o) (body qs e) (plungeFields os) refl) (first-unlike qs os e e′)
   where
     go : Alike (plungeField q) (plungeField o) (body qs e) (body os e′) ⊎ Apart (plungeField q) (plungeField o) (body qs e) (body os e′)
         → Alike (plungeField q) (plungeField o) (body qs e) (plungeFields os) ⊎ Apart (plungeField q) (plungeField o) (body qs e) (plungeFields os)
@@ -89,7 +100,11 @@ first-unlike (q ∷ qs) (o ∷ os) e e′ =
     go (inr a) (inl b) m = absurd (a .unlike (b .equal))
     go (inr a) (inr b) m = inr (record { same = a .stops ∙ sym (b .stops); short = λ h l. absurd (omega (arith, b .short, b .stops, h)) })
     go (inl a) (inl b) (inl s) = inl (ap₂ (λ (n : Plunge) (l : List Plunge). n ∷ l) (field-equal q o (a .equal)) s)
-    go (inl a) (inl b) (inr u) = inr (record { same = a .more ∙ ap (λ (n : ℕ). 7 + n) (u .same) ∙ sym (b .more); short = λ h l. u .short (omega (arith, b .more, h)) (omega (arith, l)) })
+    go (inl a) (inl b) (inr u) = inr (record {
+      same = a .more ∙ ap (λ (n : ℕ). 7 + n) (u .same) ∙ sym (b .more);
+      short =
+          λ h l. u .short (omega (arith, b .more, h)) (omega (arith, l));
+    })
 
 -- ---- two files of one head
 
@@ -105,7 +120,8 @@ module _ (p : Head) (qs os : List Plunge) where
 
   -- equal lists: the plunges are met to their end
   pub met-all : qs ≡ os → common (drop 6 (encoded p qs)) (plungeFields os) ≡ length (plungeFields os)
-  met-all e = ap (λ (l : List Plunge). common (drop 6 (encoded p l)) (plungeFields os)) e ∙ ap (λ (l : List ℕ). common l (plungeFields os)) (past-head os) ∙ go (plungeFields os) _
+  met-all e = ap (λ (l : List Plunge). common (drop 6 (encoded p l)) (plungeFields os)) e ∙ ap (λ (l : List ℕ). common l (plungeFields os))
+      (past-head os) ∙ go (plungeFields os) _
     where
       go : (l e : List ℕ) → common (l ++ e) l ≡ length l
       go [] [] = refl
@@ -113,7 +129,8 @@ module _ (p : Head) (qs os : List Plunge) where
       go (a ∷ l) e = rw (eq-eqb a a refl) (ap suc (go l e))
 
   -- unlike lists: the first unlike byte stands among the plunges, or where the other's end
-  pub met-some : Unlike qs os (0 ∷ 4 ∷ four (length qs)) (0 ∷ 4 ∷ four (length os)) → common (encoded p qs) (encoded p os) ≡ 6 + common (drop 6 (encoded p qs)) (plungeFields os)
+  pub met-some : Unlike qs os (0 ∷ 4 ∷ four (length qs)) (0 ∷ 4 ∷ four (length os))
+      → common (encoded p qs) (encoded p os) ≡ 6 + common (drop 6 (encoded p qs)) (plungeFields os)
   met-some u =
       ap₂ common (whole qs) (whole os)
       ∙ go (common-split (headField p) (headField p) _ _ refl)
@@ -159,22 +176,30 @@ module _ (f : List ℕ) (ok : IsReadable f) (bytes : (i : ℕ) → getD f i 0 < 
       apart h false e = refl
       apart h true e = absurd (h (encoded-injective (headIn f) (headIn f) (plungesIn f) (tidiedPlunges f) (sym is ∙ alike-equal f (tidied f) e) .1))
 
-      go : (plungesIn f ≡ tidiedPlunges f) ⊎ Unlike (plungesIn f) (tidiedPlunges f) (0 ∷ 4 ∷ four (length (plungesIn f))) (0 ∷ 4 ∷ four (length (tidiedPlunges f)))
+      go : (plungesIn f ≡ tidiedPlunges f) ⊎ Unlike (plungesIn f) (tidiedPlunges f) (0 ∷ 4 ∷ four (length (plungesIn f)))
+          (0 ∷ 4 ∷ four (length (tidiedPlunges f)))
           → (like ≡ true × (at ≡ place (total f)) × Tidy f) ⊎ Untidy f at like
       go (inl e) =
-          inl (b ∙ eq-eqb _ _ all, omega (arith, a, all, plungeFields-length (tidiedPlunges f), ap length e, count), record { is = alike-same f (tidied f) (is ∙ ap (encoded (headIn f)) e) })
+          inl (
+            b ∙ eq-eqb _ _ all,
+            omega (arith, a, all, plungeFields-length (tidiedPlunges f), ap length e, count),
+            record { is = alike-same f (tidied f) (is ∙ ap (encoded (headIn f)) e) },
+          )
         where
           all : common (drop 6 f) (plungeFields (tidiedPlunges f)) ≡ length (plungeFields (tidiedPlunges f))
           all = same-place ∙ met-all (headIn f) (plungesIn f) (tidiedPlunges f) e
       go (inr u) =
           inr (record {
             unlike = apart ne (alike f (tidied f)) refl;
-            first = ap (λ (l : List ℕ). common l (tidied f)) is ∙ met-some (headIn f) (plungesIn f) (tidiedPlunges f) u ∙ sym (a ∙ ap (λ (n : ℕ). 6 + n) same-place);
+            first = ap (λ (l : List ℕ). common l (tidied f)) is ∙ met-some (headIn f) (plungesIn f) (tidiedPlunges f) u ∙ sym
+                (a ∙ ap (λ (n : ℕ). 6 + n) same-place);
             told = λ h l. u .short (sym there ∙ met h) (omega (arith, l, a, met h, plungeFields-length (tidiedPlunges f), count));
           })
         where
-          there : common (drop 6 f) (plungeFields (tidiedPlunges f)) ≡ common (body (plungesIn f) (0 ∷ 4 ∷ four (length (plungesIn f)))) (plungeFields (tidiedPlunges f))
-          there = same-place ∙ ap (λ (l : List ℕ). common l (plungeFields (tidiedPlunges f))) (past-head (headIn f) (plungesIn f) (tidiedPlunges f) (plungesIn f))
+          there : common (drop 6 f) (plungeFields (tidiedPlunges f)) ≡ common (body (plungesIn f) (0 ∷ 4 ∷ four (length (plungesIn f))))
+              (plungeFields (tidiedPlunges f))
+          there = same-place ∙ ap (λ (l : List ℕ). common l (plungeFields (tidiedPlunges f)))
+              (past-head (headIn f) (plungesIn f) (tidiedPlunges f) (plungesIn f))
 
           met : like ≡ true → common (drop 6 f) (plungeFields (tidiedPlunges f)) ≡ length (plungeFields (tidiedPlunges f))
           met h = eqb-true _ _ (sym b ∙ h)
@@ -187,12 +212,20 @@ module _ (f : List ℕ) (ok : IsReadable f) (bytes : (i : ℕ) → getD f i 0 < 
 module _ (p : Head) (n : ℕ) (f m a b : List ℕ) (q : Comparable p n f m a b) where
   -- what the walk asks
   pub compare-asks : (out : List ℕ)
-      → (1 ≤ p .width) × (p .width ≤ largestSide) × (p .height ≤ largestSide) × (area p ≤ length m) × (area p ≤ length a) × (area p ≤ length b) × Room Compare (6 + 7 * length (listing p largestRung m)) out
+      → (1 ≤ p .width) × (p .width ≤ largestSide) × (p .height ≤ largestSide) × (area p ≤ length m) × (area p ≤ length a) × (area p ≤ length b)
+      × Room Compare (6 + 7 * length (listing p largestErosion m)) out
   compare-asks out =
-      let s = readable-sound f (q .readable) in
-      (subst (λ (h : Head). 1 ≤ h .width) (sym (q .head)) (s .wide), subst (λ (h : Head). h .width ≤ largestSide) (sym (q .head)) (s .narrow), subst (λ (h : Head). h .height ≤ largestSide) (sym (q .head)) (s .low), q .relief, q .first, q .second, (λ e. let z : _≡_ {A = ℕ} 0 1 = cc in absurd (omega arith)))
+      let s = readable-sound f (q .readable) in (
+        subst (λ (h : Head). 1 ≤ h .width) (sym (q .head)) (s .wide),
+        subst (λ (h : Head). h .width ≤ largestSide) (sym (q .head)) (s .narrow),
+        subst (λ (h : Head). h .height ≤ largestSide) (sym (q .head)) (s .low),
+        q .relief,
+        q .first,
+        q .second,
+        (λ e. let z : _≡_ {A = ℕ} 0 1 = cc in absurd (omega arith)),
+      )
 
-  module _ (old new : List ℕ) (r : Trail) (t : Sent Compare f 6 (plungeFields (listing p largestRung m)) old new r) where
+  module _ (old new : List ℕ) (r : Progress) (t : Sent Compare f 6 (plungeFields (listing p largestErosion m)) old new r) where
     finds : (r .like ≡ true × (r .at ≡ place (total f)) × Tidy f) ⊎ Untidy f (r .at) (r .like)
     finds =
         found f (q .readable) (q .bytes) (r .at) (r .like)

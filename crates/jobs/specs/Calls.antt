@@ -1,21 +1,21 @@
 -- Calls on plunge files: what each answers, and what its buffers hold at exit (document 01, "Plunge file, drawing, tidying" and "Refusals in their order").
 use mathlib.Core.Path.{_≡_}
-use mathlib.Core.Bool.{Bool, true, false, cond, not}
+use mathlib.Core.Bool.{Bool, false, cond, not}
 use mathlib.Core.List.{List, [], _∷_, _++_}
-use Prim.Native.Nat.{ℕ, _*_, _≤_, _<_}
+use Prim.Native.Nat.{ℕ}
 use lib.Dec.{eqb}
-use lib.ListN.{length, getD}
+use lib.ListN.{length}
 use Rattle.geometry.specs.declared.Head.{Head}
 use Rattle.geometry.specs.declared.Plunge.{Plunge}
 use Rattle.geometry.specs.Plate.{area}
 use Rattle.theory.specs.Listing.{listing, drawing, canonical}
 use Rattle.refusal.specs.declared.Verdict.{Verdict}
-use Rattle.refusal.specs.Refusals.{Trial, trial, firstMet, mapTrials, short, headOf, largestRung, written, Answered, Worked}
+use Rattle.refusal.specs.Refusals.{Trial, trial, firstMet, mapTrials, short, headOf, largestErosion, written, Answered, Worked}
 use Rattle.fields.specs.Fields.{encoded, fileLength}
-use Rattle.reading.specs.Reading.{IsReadable, fileTrials, headIn, plungesIn, total}
+use Rattle.reading.specs.Reading.{fileTrials, headIn, plungesIn}
 use Rattle.listing.specs.declared.ListAnswer.{ListAnswer}
-use Rattle.trail.specs.Sent.{common}
-use Rattle.listing.specs.Calls.{roomTrials, listAnswer}
+use Rattle.geometry.specs.Lists.{common}
+use Rattle.listing.specs.Answers.{roomTrials, listAnswer}
 
 -- ---- drawing
 
@@ -37,7 +37,7 @@ Drawn f out = Answered (drawVerdict f out) (relief f) out
 -- ---- listing
 
 abbrev pub listed : List ℕ → ℕ → ℕ → ℕ → List Plunge
-listed m k w h = listing (headOf k w h) largestRung m
+listed m k w h = listing (headOf k w h) largestErosion m
 
 -- "Arguments are tried in the order 1, 2, 3; … then 4, … 5."
 abbrev pub listVerdict : List ℕ → ℕ → ℕ → ℕ → List ℕ → List ℕ → List ℕ → Verdict
@@ -58,7 +58,7 @@ ListCall m k w h out out′ a a′ b b′ = Listing (listVerdict m k w h out a b
 
 -- "Tidying draws, then lists": the plunges of the tidied file, and its bytes under the original's head
 abbrev pub tidiedPlunges : List ℕ → List Plunge
-tidiedPlunges f = canonical (headIn f) largestRung (plungesIn f)
+tidiedPlunges f = canonical (headIn f) largestErosion (plungesIn f)
 
 abbrev pub tidied : List ℕ → List ℕ
 tidied f = encoded (headIn f) (tidiedPlunges f)
@@ -83,20 +83,6 @@ alike f g = cond (eqb (length f) (length g)) (eqb (common f g) (length f)) false
 abbrev pub checkVerdict : List ℕ → List ℕ → List ℕ → List ℕ → Verdict
 checkVerdict f a b c =
     firstMet (fileTrials f ++ (workTrial f a b c ∷ trial (not (alike f (tidied f))) 12 (common f (tidied f)) ∷ []))
-
--- of a readable file whose relief is drawn: its list can be compared with the file's own
-pub record Comparable (p : Head) (n : ℕ) (f m a b : List ℕ) : Type 0 where
-  pub readable : IsReadable f
-  pub bytes : (i : ℕ) → getD f i 0 < 256
-  pub head : p ≡ headIn f
-  pub count : n ≡ total f
-  pub lists : listing p largestRung m ≡ tidiedPlunges f
-  pub relief : area p ≤ length m
-  pub first : area p ≤ length a
-  pub second : area p ≤ length b
-
-abbrev pub Compared : List ℕ → Verdict → Type 0
-Compared f r = r ≡ firstMet (trial (not (alike f (tidied f))) 12 (common f (tidied f)) ∷ [])
 
 pub record CheckCall (f a a′ b b′ c c′ : List ℕ) (r : Verdict) : Type 0 where
   pub answer : r ≡ checkVerdict f a b c

@@ -1,3 +1,4 @@
 pub mod Calls
 pub mod Canonical
 pub mod Blocks
+pub mod Comparing

@@ -1,15 +1,16 @@
 // Calls on plunge files: drawing, listing, tidying, the tidy check. Each tries its arguments and buffers first, in document 01's order.
 use geometry::Head;
 use listing::ListAnswer;
+use listing_pass::Pass;
 use reading::ReadAnswer;
 use refusal::Refusal;
 use refusal::Verdict;
-use trail::Pass;
 ghost use mathlib.Core.Path.{_≡_};
 ghost use Prim.Native.Nat.{min};
 ghost use Rattle.geometry.specs.Plate.{area};
-ghost use Rattle.climb.specs.Pairs.{Kept};
-ghost use Rattle.jobs.specs.Calls.{Drawn, ListCall, TidyCall, Comparable, Compared, CheckCall};
+ghost use Rattle.buffers.specs.Fill.{PlateOnly};
+ghost use Rattle.jobs.specs.Calls.{Drawn, ListCall, TidyCall, CheckCall};
+ghost use Rattle.jobs.specs.Comparing.{Comparable, Compared};
 
 // How many cells a plate has.
 fn cells_of(head: Head) -> usize
@@ -104,18 +105,26 @@ fn compare(
     b: &mut [u8],
 ) -> Verdict
     requires { ⌜ Comparable head plunges (now file) (now relief) (now a) (now b) ⌝ }
-    ensures { λ r. ⌜ Compared (now (file .entry)) r × Kept head (now (a .entry)) (now (a .exit)) × Kept head (now (b .entry)) (now (b .exit)) ⌝ }
+    ensures { λ r. ⌜ Compared (now (file .entry)) r × PlateOnly head (now (a .entry)) (now (a .exit)) × PlateOnly head (now (b .entry)) (now (b .exit)) ⌝ }
 {
     let mut none = [0u8; 1];
-    let trail = walk::walk(head, Pass::Compare, relief, file, &mut none, a, b);
-    if trail.like {
-        if trail.at == 6 + 7 * plunges {
+    let progress = listing_plunges::send_listing(
+        head,
+        Pass::Compare,
+        relief,
+        file,
+        &mut none,
+        a,
+        b,
+    );
+    if progress.like {
+        if progress.at == 6 + 7 * plunges {
             return Verdict::Accepted;
         }
     }
     Verdict::Refused(Refusal {
         number: 12,
-        place: trail.at,
+        place: progress.at,
     })
 }
 

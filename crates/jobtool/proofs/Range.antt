@@ -2,7 +2,7 @@
 use mathlib.Core.Path.{_≡_, refl}
 use lib.Ieee.{Float}
 use Rattle.motion.proofs.Bounds.{printable}
-use Rattle.decimal.specs.Text.{inRange}
+use Rattle.decimal.specs.Text.{inDecimalRange}
 
-pub same-range : (x : Float) → printable x ≡ inRange x
+pub same-range : (x : Float) → printable x ≡ inDecimalRange x
 same-range x = refl

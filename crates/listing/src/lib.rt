@@ -1,18 +1,18 @@
 // The listing of a relief as a whole plunge file.
 use geometry::Head;
+use listing_pass::Pass;
 use refusal::Refusal;
-use trail::Pass;
 ghost use mathlib.Core.Path.{_≡_};
 ghost use Prim.Native.Nat.{_+_, _-_, _*_, _≤_};
 ghost use lib.ListN.{length, drop};
 ghost use lib.Seq.{paste};
 ghost use Rattle.geometry.specs.Plate.{area};
 ghost use Rattle.theory.specs.Listing.{listing};
-ghost use Rattle.refusal.specs.Refusals.{largestSide, largestRung};
-ghost use Rattle.climb.specs.Pairs.{Kept};
+ghost use Rattle.refusal.specs.Refusals.{largestSide, largestErosion};
+ghost use Rattle.buffers.specs.Fill.{PlateOnly};
 ghost use Rattle.fields.specs.Fields.{plungeFields};
 ghost use Rattle.fields.specs.Writing.{spliced};
-ghost use Rattle.listing.specs.Calls.{stageLength, KeptPlunges, ListedInto};
+ghost use Rattle.listing.specs.Staging.{stageLength, KeptPlunges, ListedInto};
 
 // How long a file is, and how many plunges it has.
 pub struct Extent {
@@ -51,14 +51,14 @@ fn put_plunges(
     a: &mut [u8],
     b: &mut [u8],
 )
-    requires { ⌜ (1 ≤ head .width) × (head .width ≤ largestSide) × (head .height ≤ largestSide) × (area head ≤ length (now relief)) × (area head ≤ length (now a)) × (area head ≤ length (now b)) × (length (now kept) ≡ stageLength) × (end ≡ 6 + 7 * length (listing head largestRung (now relief))) × (end ≤ length (now out)) × KeptPlunges (now kept) end (listing head largestRung (now relief)) ⌝ }
-    ensures { λ _. ⌜ (now (out .exit) ≡ spliced (now (out .entry)) 6 (plungeFields (listing head largestRung (now (relief .entry))))) × Kept head (now (a .entry)) (now (a .exit)) × Kept head (now (b .entry)) (now (b .exit)) ⌝ }
+    requires { ⌜ (1 ≤ head .width) × (head .width ≤ largestSide) × (head .height ≤ largestSide) × (area head ≤ length (now relief)) × (area head ≤ length (now a)) × (area head ≤ length (now b)) × (length (now kept) ≡ stageLength) × (end ≡ 6 + 7 * length (listing head largestErosion (now relief))) × (end ≤ length (now out)) × KeptPlunges (now kept) end (listing head largestErosion (now relief)) ⌝ }
+    ensures { λ _. ⌜ (now (out .exit) ≡ spliced (now (out .entry)) 6 (plungeFields (listing head largestErosion (now (relief .entry))))) × PlateOnly head (now (a .entry)) (now (a .exit)) × PlateOnly head (now (b .entry)) (now (b .exit)) ⌝ }
 {
     if end <= STAGE {
         copy_past_head(kept, out, end);
         return;
     }
-    walk::walk(head, Pass::Write, relief, relief, out, a, b);
+    listing_plunges::send_listing(head, Pass::Write, relief, relief, out, a, b);
 }
 
 // Writes the file of a relief's listing to an output. The plunges are counted first, and kept if they are few: an output that is too short is refused untouched.
@@ -70,10 +70,10 @@ pub fn list_into(
     b: &mut [u8],
 ) -> ListAnswer
     requires { ⌜ (1 ≤ head .width) × (head .width ≤ largestSide) × (head .height ≤ largestSide) × (area head ≤ length (now relief)) × (area head ≤ length (now a)) × (area head ≤ length (now b)) ⌝ }
-    ensures { λ r. ⌜ ListedInto head (now (relief .entry)) (now (out .entry)) (now (out .exit)) r × Kept head (now (a .entry)) (now (a .exit)) × Kept head (now (b .entry)) (now (b .exit)) ⌝ }
+    ensures { λ r. ⌜ ListedInto head (now (relief .entry)) (now (out .entry)) (now (out .exit)) r × PlateOnly head (now (a .entry)) (now (a .exit)) × PlateOnly head (now (b .entry)) (now (b .exit)) ⌝ }
 {
     let mut kept = [0u8; STAGE];
-    let counted = walk::walk(head, Pass::Stage, relief, relief, &mut kept, a, b);
+    let counted = listing_plunges::send_listing(head, Pass::Stage, relief, relief, &mut kept, a, b);
     let end = counted.at;
     let plunges = (end - 6) / 7;
     let bytes = end + 7;

@@ -5,7 +5,7 @@ use Prim.Native.Nat.{ℕ, zero, suc, _+_, _-_, _*_, _^_, _≤_, _<_}
 use native.Mathlib.Nat.{zero-lt-suc, mul-le-mul, mul-pos, mul-comm, mul-assoc, mul-right-comm, mul-le-mul-right, le-trans, le-of-eq, zero-mul}
 use native.Mathlib.Omega.{arith}
 use borrow.Author.Tests.{lt-ltb}
-use lib.Dec.{T, eqb, ltb, eqb→eq, ltb→lt, lt→ltb, lit≤, lit<}
+use lib.Dec.{T, eqb, eqb→eq, ltb→lt, lt→ltb, lit≤, lit<}
 use lib.IntN.{ℤ, pos, negsuc}
 use lib.Ieee.{Float, nan, inf, fin, binary64, up, down, round, sum, mul, add, div, le, lt, ofInt}
 use lib.Ieee.Fits.{up-pos, down-pos, and-l}
@@ -18,9 +18,9 @@ use Rattle.sink.specs.Sink.{micrometres, whole, sinkMillimetres}
 use Rattle.motion.specs.declared.Scale.{Scale}
 use Rattle.motion.specs.declared.Motion.{Motion}
 use Rattle.motion.specs.declared.Motion.the-variants.{Change, Stay, Travel, Sink}
-use Rattle.motion.specs.Motions.{within, sixteenth, inRange, changeWidth, travelTo, motionsOf}
+use Rattle.motion.specs.Motions.{within, sixteenth, scaleInRange, changeWidth, travelTo, motionsOf}
 
--- from 2^-6 to below 2^20: the range of crates/decimal, `inRange`
+-- from 2^-6 to below 2^20: the range of crates/decimal, `inDecimalRange`
 abbrev pub printable : Float → Bool
 printable x = cond (le (fin false 1 (negsuc 5)) x) (lt x (fin false 1 (pos 20))) false
 
@@ -75,7 +75,8 @@ between-printable h nan H b = absurd (b .0)
 between-printable h (inf s) H b = absurd (b .0)
 between-printable h (fin true m e) H b = absurd (b .0)
 between-printable h (fin false m e) H b =
-    rw (passed (le least (fin false m e)) (cross→le least (fin false m e) tt (b .0) (omega (arith, b .1)))) (under m e (small (m * up e) (down e) h (down-pos e) H (b .2)))
+    rw (passed (le least (fin false m e)) (cross→le least (fin false m e) tt (b .0) (omega (arith, b .1))))
+    (under m e (small (m * up e) (down e) h (down-pos e) H (b .2)))
 
 -- ---- a whole number
 
@@ -117,7 +118,8 @@ product k p K K' e =
     let w = pitch p e in
     let v : HasValue (whole k) false k 1 = whole-value k (omega arith) in
     let t = times k (num p) (den p) K K' (w .1) (w .2) in
-    subst (λ (z : Float). Between 2044 z) (sym (mul-at binary64 (whole k) p k 1 (num p) (den p) (positive-of-value (whole k) k 1 v K) (w .0) (lit< tt) (den-pos p) v (own-value p (w .0))))
+    subst (λ (z : Float). Between 2044 z) (sym
+    (mul-at binary64 (whole k) p k 1 (num p) (den p) (positive-of-value (whole k) k 1 v K) (w .0) (lit< tt) (den-pos p) v (own-value p (w .0))))
     (rounded 2044 (k * num p) (1 * den p) (lit< tt) (lit≤ tt) (one-pos (den p) (den-pos p)) (t .0) (t .1))
 
 -- ---- an offset plus a product
@@ -153,15 +155,18 @@ zero-sum a b c e h =
     let s : b - a ≡ a + b = omega arith in
     rw (lt-ltb a b l) (ap (λ (x : ℕ). round binary64 false x c) s)
 
-add-is : (m : ℕ) (e : ℤ) (n : ℕ) (d : ℤ) → add binary64 (fin false m e) (fin false n d) ≡ round binary64 false (m * up e * down d + n * up d * down e) (down e * down d)
+add-is : (m : ℕ) (e : ℤ) (n : ℕ) (d : ℤ) → add binary64 (fin false m e) (fin false n d) ≡ round binary64 false
+    (m * up e * down d + n * up d * down e) (down e * down d)
 unfolding add
 add-is m e n d = refl
 
-add-zero-is : (m : ℕ) (e : ℤ) (n : ℕ) (d : ℤ) → add binary64 (fin true m e) (fin false n d) ≡ sum binary64 true (m * up e * down d) false (n * up d * down e) (down e * down d)
+add-zero-is : (m : ℕ) (e : ℤ) (n : ℕ) (d : ℤ)
+    → add binary64 (fin true m e) (fin false n d) ≡ sum binary64 true (m * up e * down d) false (n * up d * down e) (down e * down d)
 unfolding add
 add-zero-is m e n d = refl
 
-rounded-sum : (m : ℕ) (e : ℤ) (n : ℕ) (d : ℤ) → m * up e ≤ 1000 * down e → Between 2044 (fin false n d) → Between 4096 (round binary64 false (m * up e * down d + n * up d * down e) (down e * down d))
+rounded-sum : (m : ℕ) (e : ℤ) (n : ℕ) (d : ℤ) → m * up e ≤ 1000 * down e → Between 2044 (fin false n d)
+    → Between 4096 (round binary64 false (m * up e * down d + n * up d * down e) (down e * down d))
 rounded-sum m e n d h b =
     let t = plus (m * up e) (n * up d) (down e) (down d) h (b .1) (b .2) in
     rounded 4096 (m * up e * down d + n * up d * down e) (down e * down d) (lit< tt) (lit≤ tt) (mul-pos (down-pos e) (down-pos d)) (t .0) (t .1)
@@ -184,7 +189,9 @@ offset-plus (fin false m e) (fin false n d) f t b = subst (λ (z : Float). Betwe
 offset-plus (fin true m e) (fin false n d) f t b =
     let z : m * up e ≡ 0 = offset-zero m e f in
     let p : 0 < n * up d = mul-pos (ltb→lt 0 n (b .0)) (up-pos d) in
-    subst (λ (z : Float). Between 4096 z) (sym (add-zero-is m e n d ∙ zero-sum (m * up e * down d) (n * up d * down e) (down e * down d) (nought (m * up e) (down d) z) (mul-pos p (down-pos e))))
+    subst (λ (z : Float). Between 4096 z) (sym
+    (add-zero-is m e n d ∙ zero-sum (m * up e * down d) (n * up d * down e) (down e * down d) (nought (m * up e) (down d) z)
+    (mul-pos p (down-pos e))))
     (rounded-sum m e n d (low-enough (m * up e) (down e) z) b)
 
 -- ---- a whole number of micrometres in millimetres
@@ -221,13 +228,15 @@ most-sink d h = let l : d ≤ 255 = omega arith in let s : d * d ≤ 255 * 255 =
 
 -- ---- the motions
 
-pub change-printable : (s : Scale) (reach : ℕ) → inRange s ≡ true → reach ≤ 119 → printable (changeWidth s reach) ≡ true
+pub change-printable : (s : Scale) (reach : ℕ) → scaleInRange s ≡ true → reach ≤ 119 → printable (changeWidth s reach) ≡ true
 change-printable s reach e h =
     between-printable 2044 (changeWidth s reach) (lit< tt)
     (product (2 * (2 * reach + 1)) (s .«half_pitch») (omega arith) (omega arith)
-    (both (within sixteenth (whole 4) (s .«half_pitch»)) (cond (within (whole 0) (whole 1000) (s .«column_offset»)) (within (whole 0) (whole 1000) (s .«row_offset»)) false) e .0))
+    (both (within sixteenth (whole 4) (s .«half_pitch»))
+    (cond (within (whole 0) (whole 1000) (s .«column_offset»)) (within (whole 0) (whole 1000) (s .«row_offset»)) false) e .0))
 
-pub travel-printable : (p offset : Float) (cell : ℕ) → within sixteenth (whole 4) p ≡ true → within (whole 0) (whole 1000) offset ≡ true → cell < 256 → printable (travelTo p offset cell) ≡ true
+pub travel-printable : (p offset : Float) (cell : ℕ) → within sixteenth (whole 4) p ≡ true → within (whole 0) (whole 1000) offset ≡ true → cell < 256
+    → printable (travelTo p offset cell) ≡ true
 travel-printable p offset cell e o h =
     let w = both (le (whole 0) offset) (le offset (whole 1000)) o in
     between-printable 4096 (travelTo p offset cell) (lit< tt)
@@ -246,8 +255,10 @@ printableMotion Stay = true
 printableMotion (Travel x y) = cond (printable x) (printable y) false
 printableMotion (Sink depth) = printable depth
 
-pub motions-printable : (s : Scale) (changed : Bool) (q : Plunge) → inRange s ≡ true → q .reach .0 ≤ 119 → q .column < 256 → q .row < 256 → 1 ≤ q .depth → q .depth < 256
-    → (printableMotion (motionsOf s changed q .first) ≡ true) × (printableMotion (motionsOf s changed q .second) ≡ true) × (printableMotion (motionsOf s changed q .third) ≡ true)
+pub motions-printable : (s : Scale) (changed : Bool) (q : Plunge) → scaleInRange s ≡ true → q .reach .0 ≤ 119 → q .column < 256 → q .row < 256
+    → 1 ≤ q .depth → q .depth < 256
+    → (printableMotion (motionsOf s changed q .first) ≡ true) × (printableMotion (motionsOf s changed q .second) ≡ true)
+    × (printableMotion (motionsOf s changed q .third) ≡ true)
 motions-printable s changed q e r x y d d' =
     let p = within sixteenth (whole 4) (s .«half_pitch») in
     let c = within (whole 0) (whole 1000) (s .«column_offset») in
@@ -255,7 +266,8 @@ motions-printable s changed q e r x y d d' =
     let w = both p (cond c o false) e in
     let v = both c o (w .1) in (
       first changed (change-printable s (q .reach .0) e r),
-      rw (travel-printable (s .«half_pitch») (s .«column_offset») (q .column) (w .0) (v .0) x) (travel-printable (s .«half_pitch») (s .«row_offset») (q .row) (w .0) (v .1) y),
+      rw (travel-printable (s .«half_pitch») (s .«column_offset») (q .column) (w .0) (v .0) x)
+          (travel-printable (s .«half_pitch») (s .«row_offset») (q .row) (w .0) (v .1) y),
       sink-printable (q .depth) d d',
     )
   where

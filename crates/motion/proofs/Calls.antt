@@ -1,27 +1,26 @@
 -- The motion call: its plunge by its number, and the answer by the tests that were made.
 use mathlib.Core.Path.{_≡_, refl, sym, ap, ap₂, _∙_}
-use mathlib.Core.Bool.{Bool, true, false, cond, not}
-use mathlib.Core.List.{List, [], _∷_}
+use mathlib.Core.Bool.{Bool, true, false, not}
+use mathlib.Core.List.{List}
 use Prim.Native.Nat.{ℕ, _+_, _-_, _≤_, _<_}
 use native.Mathlib.Omega.{arith}
 use borrow.Author.Tests.{lt-ltb, le-ltb, le-leb, eq-eqb, ne-eqb}
-use lib.Dec.{eqb, leb}
-use lib.ListN.{length, getD}
+use lib.Dec.{eqb}
+use lib.ListN.{getD}
 use Rattle.geometry.specs.declared.Plunge.{Plunge}
 use Rattle.geometry.specs.Forms.{largestReach}
 use Rattle.refusal.specs.declared.Refusal.{Refusal}
 use Rattle.refusal.specs.declared.Verdict.{Verdict}
 use Rattle.refusal.specs.declared.Verdict.the-variants.{Accepted, Refused}
-use Rattle.refusal.specs.Refusals.{trial, firstMet}
-use Rattle.reading.specs.declared.MaybePlunge.{MaybePlunge}
+use Rattle.refusal.specs.Refusals.{firstMet}
 use Rattle.reading.specs.declared.MaybePlunge.the-variants.{OfPlunge, NoPlunge}
-use Rattle.reading.specs.Reading.{IsReadable, fileTrials, plungeAt, plungeIf, place, total}
+use Rattle.reading.specs.Reading.{IsReadable, fileTrials, plungeAt, place, total}
+use Rattle.reading.specs.Steps.{plungeIf}
 use Rattle.reading.proofs.Answers.{after-file, file-fault}
 use Rattle.motion.specs.declared.Scale.{Scale}
 use Rattle.motion.specs.declared.Motions.{Motions}
-use Rattle.motion.specs.declared.MotionAnswer.{MotionAnswer}
 use Rattle.motion.specs.declared.MotionAnswer.the-variants.{Moves, NoMoves}
-use Rattle.motion.specs.Motions.{inRange, motionsOf, plungeNumber, changes, motionVerdict, motionAnswer, motionsIn}
+use Rattle.motion.specs.Motions.{scaleInRange, motionsOf, plungeNumber, changes, motionVerdict, motionAnswer, motionsIn}
 
 -- a field whose reach is one gives its plunge
 pub is-plunge : (f : List ℕ) (at : ℕ) → getD f (at + 5) 0 ≤ largestReach → plungeIf f at ≡ OfPlunge (plungeAt f at)
@@ -37,7 +36,8 @@ no-plunge f at h e = let y : NoPlunge ≡ OfPlunge (plungeAt f at) = e ∙ is-pl
 pub changes-first : (f : List ℕ) (i : ℕ) → i ≡ 0 → true ≡ changes f i
 changes-first f i e = rw (eq-eqb i 0 e)
 
-pub changes-later : (f : List ℕ) (i : ℕ) (q o : Plunge) → (i ≡ 0 → ⊥) → q ≡ plungeNumber f i → o ≡ plungeNumber f (i - 1) → not (eqb (q .reach .0) (o .reach .0)) ≡ changes f i
+pub changes-later : (f : List ℕ) (i : ℕ) (q o : Plunge) → (i ≡ 0 → ⊥) → q ≡ plungeNumber f i → o ≡ plungeNumber f (i - 1)
+    → not (eqb (q .reach .0) (o .reach .0)) ≡ changes f i
 changes-later f i q o h e g =
     ap₂ (λ (a b : Plunge). not (eqb (a .reach .0) (b .reach .0))) e g ∙ sym (rw (ne-eqb i 0 h))
 
@@ -59,11 +59,11 @@ module _ (f : List ℕ) (i : ℕ) (s : Scale) where
   pub file-refused : (r : Refusal) → firstMet (fileTrials f) ≡ Refused r → NoMoves r ≡ motionsIn f i s
   file-refused r e = answer-of (Refused r) (file-fault f _ r e)
 
-  pub scale-refused : IsReadable f → inRange s ≡ false → NoMoves (record { number = 13; place = 0 }) ≡ motionsIn f i s
+  pub scale-refused : IsReadable f → scaleInRange s ≡ false → NoMoves (record { number = 13; place = 0 }) ≡ motionsIn f i s
   scale-refused ok e = answer-of (Refused (record { number = 13; place = 0 })) (after-file f _ ok ∙ rw e)
 
-  pub number-refused : IsReadable f → inRange s ≡ true → total f ≤ i → NoMoves (record { number = 14; place = 0 }) ≡ motionsIn f i s
+  pub number-refused : IsReadable f → scaleInRange s ≡ true → total f ≤ i → NoMoves (record { number = 14; place = 0 }) ≡ motionsIn f i s
   number-refused ok e h = answer-of (Refused (record { number = 14; place = 0 })) (after-file f _ ok ∙ rw (e, le-ltb i (total f) h))
 
-  pub moves : IsReadable f → inRange s ≡ true → i < total f → (m : Motions) → m ≡ motionsOf s (changes f i) (plungeNumber f i) → Moves m ≡ motionsIn f i s
+  pub moves : IsReadable f → scaleInRange s ≡ true → i < total f → (m : Motions) → m ≡ motionsOf s (changes f i) (plungeNumber f i) → Moves m ≡ motionsIn f i s
   moves ok e h m g = ap Moves g ∙ answer-of Accepted (after-file f _ ok ∙ rw (e, lt-ltb i (total f) h))

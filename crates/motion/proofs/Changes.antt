@@ -1,12 +1,11 @@
 -- In a list whose reaches rise, as in every tidied file, there are as many changes as different reaches.
-use mathlib.Core.Path.{_≡_, refl, sym, ap, _∙_, subst}
-use mathlib.Core.Logic.{_⊎_, inl, inr, _≢_}
+use mathlib.Core.Path.{_≡_, refl, sym, ap, subst}
+use mathlib.Core.Logic.{inl, inr, _≢_}
 use mathlib.Core.Bool.{Bool, true, false, cond}
 use mathlib.Core.List.{List, [], _∷_, List·Memᴰ, List·Memᴰ·head, List·Memᴰ·tail, List·Memᴰ·not-nil}
 use Prim.Native.Nat.{ℕ, zero, suc, _+_, _≤_, _<_}
 use native.Mathlib.Omega.{arith}
-use native.Mathlib.Decide.{decLe}
-use borrow.Author.Tests.{eq-eqb, ne-eqb, eqb-true, eqb-false}
+use borrow.Author.Tests.{ne-eqb, eqb-true, eqb-false}
 use lib.Dec.{eqb}
 use Rattle.geometry.specs.declared.Plunge.{Plunge}
 use Rattle.geometry.specs.Lists.{any}
@@ -62,8 +61,13 @@ rising-from q qs h o m = go (h .0 o m)
 
 after : (limit : ℕ) (q : Plunge) (qs : List Plunge) → Rising (q ∷ qs) → ((o : Plunge) → List·Memᴰ o (q ∷ qs) → o .reach .0 < limit)
     → 1 + changesAfter (q .reach .0) qs ≡ reachesBelow limit (q ∷ qs)
-after limit q [] h l = omega (arith, with-first limit q [] (λ o m. absurd (List·Memᴰ·not-nil m)) (l q (List·Memᴰ·head refl)), below-none limit [] limit (λ o m. absurd (List·Memᴰ·not-nil m)) (omega arith))
-after limit q (o ∷ qs) h l = go (after limit o qs (h .1) (λ n m. l n (List·Memᴰ·tail m))) (eqb (o .reach .0) (q .reach .0)) refl (with-first limit q (o ∷ qs) (rising-from q (o ∷ qs) h) (l q (List·Memᴰ·head refl)))
+after limit q [] h l = omega (
+  arith,
+  with-first limit q [] (λ o m. absurd (List·Memᴰ·not-nil m)) (l q (List·Memᴰ·head refl)),
+  below-none limit [] limit (λ o m. absurd (List·Memᴰ·not-nil m)) (omega arith),
+)
+after limit q (o ∷ qs) h l = go (after limit o qs (h .1) (λ n m. l n (List·Memᴰ·tail m))) (eqb (o .reach .0) (q .reach .0)) refl
+    (with-first limit q (o ∷ qs) (rising-from q (o ∷ qs) h) (l q (List·Memᴰ·head refl)))
   where
     low : q .reach .0 ≤ o .reach .0
     low = rising-from q (o ∷ qs) h o (List·Memᴰ·head refl)
@@ -73,10 +77,12 @@ after limit q (o ∷ qs) h l = go (after limit o qs (h .1) (λ n m. l n (List·M
         → 1 + (cond b 0 1 + changesAfter (o .reach .0) qs) ≡ reachesBelow limit (q ∷ o ∷ qs)
     go more true e w = omega (arith, more, w)
     go more false e w =
-        let z : has (q .reach .0) qs ≡ false = has-not qs (q .reach .0) (o .reach .0) (rising-from o qs (h .1)) (omega (arith, low, eqb-false (o .reach .0) (q .reach .0) e)) in
+        let z : has (q .reach .0) qs ≡ false =
+        has-not qs (q .reach .0) (o .reach .0) (rising-from o qs (h .1)) (omega (arith, low, eqb-false (o .reach .0) (q .reach .0) e)) in
         omega (arith, more, rw z at w)
 
 -- "Change comes for i = 0 or where the reach differs": in a rising list as many as there are different reaches
-pub changes-are-reaches : (limit : ℕ) (qs : List Plunge) → Rising qs → ((q : Plunge) → List·Memᴰ q qs → q .reach .0 < limit) → changesIn qs ≡ reachesBelow limit qs
+pub changes-are-reaches : (limit : ℕ) (qs : List Plunge) → Rising qs → ((q : Plunge) → List·Memᴰ q qs → q .reach .0 < limit)
+    → changesIn qs ≡ reachesBelow limit qs
 changes-are-reaches limit [] h l = sym (below-none limit [] limit (λ o m. absurd (List·Memᴰ·not-nil m)) (omega arith))
 changes-are-reaches limit (q ∷ qs) h l = after limit q qs h l

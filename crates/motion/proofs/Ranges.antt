@@ -1,7 +1,7 @@
 -- What is in a range and what is not: not a number, infinities, and zero below zero.
 use mathlib.Core.Path.{_≡_, refl}
 use mathlib.Core.Bool.{true, false}
-use lib.Ieee.{Float, nan, inf, fin, binary64, ofInt, div, le, lt, eq, neg}
+use lib.Ieee.{Float, nan, inf, fin, ofInt, div, le, lt, eq, neg}
 use Rattle.sink.specs.Sink.{whole}
 use Rattle.motion.specs.Motions.{within, sixteenth}
 

@@ -1,5 +1,4 @@
 -- Press motions, in IEEE 754 binary64 (document 01, "Press motions").
-use mathlib.Core.Path.{_≡_}
 use mathlib.Core.Bool.{Bool, true, false, cond, not}
 use mathlib.Core.List.{List, [], _∷_, _++_}
 use Prim.Native.Nat.{ℕ, _+_, _-_, _*_}
@@ -12,7 +11,6 @@ use Rattle.refusal.specs.Refusals.{trial, firstMet}
 use Rattle.reading.specs.Reading.{fileTrials, plungeAt, place, total}
 use Rattle.sink.specs.Sink.{whole, sinkMillimetres}
 use Rattle.motion.specs.declared.Scale.{Scale}
-use Rattle.motion.specs.declared.Motion.{Motion}
 use Rattle.motion.specs.declared.Motion.the-variants.{Change, Stay, Travel, Sink}
 use Rattle.motion.specs.declared.Motions.{Motions}
 use Rattle.motion.specs.declared.MotionAnswer.{MotionAnswer}
@@ -29,8 +27,8 @@ abbrev pub sixteenth : Float
 sixteenth = div binary64 (whole 1) (whole 16)
 
 -- "half pitch p, from 0.0625 to 4, and offsets for columns and rows, each 0 to 1000, ends included"
-abbrev pub inRange : Scale → Bool
-inRange s =
+abbrev pub scaleInRange : Scale → Bool
+scaleInRange s =
     cond (within sixteenth (whole 4) (s .«half_pitch»))
     (cond (within (whole 0) (whole 1000) (s .«column_offset»)) (within (whole 0) (whole 1000) (s .«row_offset»)) false)
     false
@@ -66,7 +64,7 @@ changes f i = cond (eqb i 0) true (not (eqb (plungeNumber f i .reach .0) (plunge
 
 -- "file faults in reading order; then 4, 13, 14": "13: a scale number outside its range or not a number", "14: plunge number not below the total"
 abbrev pub motionVerdict : List ℕ → ℕ → Scale → Verdict
-motionVerdict f i s = firstMet (fileTrials f ++ (trial (not (inRange s)) 13 0 ∷ trial (not (ltb i (total f))) 14 0 ∷ []))
+motionVerdict f i s = firstMet (fileTrials f ++ (trial (not (scaleInRange s)) 13 0 ∷ trial (not (ltb i (total f))) 14 0 ∷ []))
 
 abbrev pub motionAnswer : Verdict → Motions → MotionAnswer
 motionAnswer Accepted m = Moves m

@@ -11,7 +11,7 @@ ghost use lib.Dec.{eqb};
 ghost use lib.ListN.{length, getD};
 ghost use Rattle.geometry.specs.Forms.{largestReach};
 ghost use Rattle.reading.specs.Reading.{plungeAt, place, total, IsReadable};
-ghost use Rattle.motion.specs.Motions.{within, inRange, changeWidth, travelTo, motionsOf, plungeNumber, changes, motionsIn};
+ghost use Rattle.motion.specs.Motions.{within, scaleInRange, changeWidth, travelTo, motionsOf, plungeNumber, changes, motionsIn};
 
 // Millimetres: half the pitch of the cells, and where column 0 and row 0 begin.
 pub struct Scale {
@@ -50,7 +50,7 @@ fn is_within(low: f64, high: f64, x: f64) -> bool
 
 // Whether all three numbers are in their ranges.
 pub fn in_range(scale: Scale) -> bool
-    ensures { λ r. ⌜ r ≡ inRange scale ⌝ }
+    ensures { λ r. ⌜ r ≡ scaleInRange scale ⌝ }
 {
     if is_within(0.0625, 4.0, scale.half_pitch) {
         if is_within(0.0, 1000.0, scale.column_offset) {

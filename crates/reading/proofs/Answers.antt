@@ -7,13 +7,11 @@ use native.Mathlib.Omega.{arith}
 use native.Mathlib.Decide.{decLe}
 use lib.ListN.{length, getD}
 use Rattle.geometry.specs.Forms.{largestReach}
-use Rattle.geometry.specs.Plunges.{fitsPlate}
 use Rattle.refusal.specs.declared.Refusal.{Refusal}
 use Rattle.refusal.specs.declared.Verdict.{Verdict}
 use Rattle.refusal.specs.declared.Verdict.the-variants.{Accepted, Refused}
 use Rattle.refusal.specs.Refusals.{Trial, firstMet}
 use Rattle.reading.specs.declared.Job.{Job}
-use Rattle.reading.specs.declared.ReadAnswer.{ReadAnswer}
 use Rattle.reading.specs.declared.ReadAnswer.the-variants.{Readable, Unreadable}
 use Rattle.reading.specs.Reading.{IsReadable, fileTrials, headIn, plungeAt, place, total, readAnswer}
 use Rattle.reading.proofs.Steps.{andThen, first-append, both-accepted, wide-ball}

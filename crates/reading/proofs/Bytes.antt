@@ -106,13 +106,15 @@ four-of x y z w a b c d =
     let low : (65536 * (256 * x + y) + (256 * z + w)) % 65536 ≡ 256 * z + w = omega arith in
     (λ i. two (high i) ++ two (low i)) ∙ (λ i. two-of x y a b i ++ two-of z w c d i)
 
-pub end-bytes : (f : List ℕ) (at : ℕ) → at + 7 ≤ length f → isEnd f at ≡ true → ((i : ℕ) → getD f i 0 < 256) → drop at f ≡ endField (numberAt f at) ++ drop (at + 7) f
+pub end-bytes : (f : List ℕ) (at : ℕ) → at + 7 ≤ length f → isEnd f at ≡ true → ((i : ℕ) → getD f i 0 < 256) → drop at f ≡ endField (numberAt f at)
+    ++ drop (at + 7) f
 end-bytes f at h e bytes =
     let t = opens-bytes 3 4 f at e in
     let tag : getD f at 0 ≡ 3 = t .0 in
     let high : getD f (at + 1) 0 ≡ 0 = omega (arith, t .1) in
     let low : getD f (at + 2) 0 ≡ 4 = omega (arith, t .1) in
-    let number = four-of (getD f (at + 3) 0) (getD f (at + 4) 0) (getD f (at + 5) 0) (getD f (at + 6) 0) (bytes (at + 3)) (bytes (at + 4)) (bytes (at + 5)) (bytes (at + 6)) in
+    let number = four-of (getD f (at + 3) 0) (getD f (at + 4) 0) (getD f (at + 5) 0) (getD f (at + 6) 0) (bytes (at + 3)) (bytes (at + 4))
+    (bytes (at + 5)) (bytes (at + 6)) in
     seven-bytes f at h ∙ (λ i. tag i ∷ high i ∷ low i ∷ (sym number i ++ drop (at + 7) f))
 
 pub number-below : (f : List ℕ) (at : ℕ) → ((i : ℕ) → getD f i 0 < 256) → numberAt f at < 4294967296
@@ -130,7 +132,8 @@ module _ (f : List ℕ) (at : ℕ) (bs : List ℕ) (e : drop at f ≡ bs) where
   opens-there : (tag size : ℕ) → opens tag size f at ≡ opens tag size bs 0
   opens-there tag size i = cond (eqb (first-there i) tag) (eqb (256 * byte-there 1 i + byte-there 2 i) size) false
 
-pub written-plunge : (f : List ℕ) (at : ℕ) (q : Plunge) (rest : List ℕ) → drop at f ≡ plungeField q ++ rest → (plungeAt f at ≡ q) × (isPlunge f at ≡ true) × (isEnd f at ≡ false)
+pub written-plunge : (f : List ℕ) (at : ℕ) (q : Plunge) (rest : List ℕ) → drop at f ≡ plungeField q ++ rest → (plungeAt f at ≡ q)
+    × (isPlunge f at ≡ true) × (isEnd f at ≡ false)
 written-plunge f at q rest e =
     let b = byte-there f at (plungeField q ++ rest) e in (
       (λ i. record { column = b 3 i; row = b 4 i; reach = record { 0 = b 5 i }; depth = b 6 i }),

@@ -1,5 +1,5 @@
 pub mod Steps
-pub mod Walk
+pub mod FieldSteps
 pub mod Bytes
 pub mod Readable
 pub mod Answers

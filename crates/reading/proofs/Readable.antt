@@ -25,7 +25,7 @@ use Rattle.reading.specs.declared.ReadAnswer.the-variants.{Readable}
 use Rattle.reading.specs.Reading.{headIn, isPlunge, isEnd, plungeAt, openTrials, plateTrials, headTrials, place, fieldsFrom, IsReadable, total, plungesUpTo, plungesIn, readAnswer, read}
 use Rattle.reading.specs.Steps.{stepAt}
 use Rattle.reading.proofs.Steps.{andThen, first-append, both-accepted, not-refused, open-whole, Plated, head-right, plunge-right, end-right, content-plunge, content-end, field-content}
-use Rattle.reading.proofs.Walk.{afterStep, fields-step, Passed, Closed, onward, ended, whole-total, file-first}
+use Rattle.reading.proofs.FieldSteps.{afterStep, fields-step, Passed, Closed, onward, ended, whole-total, file-first}
 use Rattle.reading.proofs.Bytes.{head-kind, head-bytes, plunge-bytes, end-bytes, number-below, written-plunge, written-end, written-head, kind-named}
 
 -- ---- what a readable file has, field by field
@@ -36,24 +36,24 @@ pub record Checked (f : List ℕ) (m : ℕ) : Type 0 where
   pub closed : Closed f m
 
 -- right plunges from one on, then the right end
-record Walked (p : Head) (f : List ℕ) (n : ℕ) : Type 0 where
+record ReadUpTo (p : Head) (f : List ℕ) (n : ℕ) : Type 0 where
   last : ℕ
   from : n ≤ last
   plunges : (i : ℕ) → n ≤ i → i < last → Passed p f i
   closed : Closed f last
 
-walk : (more : ℕ) (p : Head) (f : List ℕ) (n : ℕ) → length f < n + more → place n ≤ length f → firstMet (fieldsFrom more p f n) ≡ Accepted → Walked p f n
-walk zero p f n l h e = absurd (omega arith)
-walk (suc more) p f n l h e = go (stepAt p f n) refl (sym (fields-step more p f n) ∙ e) (walk more p f (suc n))
+readFrom : (more : ℕ) (p : Head) (f : List ℕ) (n : ℕ) → length f < n + more → place n ≤ length f → firstMet (fieldsFrom more p f n) ≡ Accepted → ReadUpTo p f n
+readFrom zero p f n l h e = absurd (omega arith)
+readFrom (suc more) p f n l h e = go (stepAt p f n) refl (sym (fields-step more p f n) ∙ e) (readFrom more p f (suc n))
   where
     go : (s : Step) → stepAt p f n ≡ s → afterStep s (firstMet (fieldsFrom more p f (suc n))) ≡ Accepted
-        → (length f < suc n + more → place (suc n) ≤ length f → firstMet (fieldsFrom more p f (suc n)) ≡ Accepted → Walked p f (suc n)) → Walked p f n
+        → (length f < suc n + more → place (suc n) ≤ length f → firstMet (fieldsFrom more p f (suc n)) ≡ Accepted → ReadUpTo p f (suc n)) → ReadUpTo p f n
     go Onward g k r =
         let here = onward p f n g in
         let w = r (omega arith) (omega (arith, here .room)) k in
         record { last = w .last; from = omega (arith, w .from); plunges = λ i a b. each here w i (decLe i n) a b; closed = w .closed }
       where
-        each : Passed p f n → (w : Walked p f (suc n)) (i : ℕ) → Dec (i ≤ n) → n ≤ i → i < w .last → Passed p f i
+        each : Passed p f n → (w : ReadUpTo p f (suc n)) (i : ℕ) → Dec (i ≤ n) → n ≤ i → i < w .last → Passed p f i
         each here w i (yes d) a b = let e : n ≡ i = omega arith in subst (λ (j : ℕ). Passed p f j) e here
         each here w i (no d) a b = w .plunges i (omega arith) b
     go Ended g k r = record { last = n; from = omega arith; plunges = λ i a b. absurd (omega arith); closed = ended p f n g }
@@ -63,7 +63,7 @@ pub readable-checked : (f : List ℕ) → IsReadable f → Checked f (total f)
 readable-checked f e =
     let t = both-accepted (firstMet (headTrials f)) (firstMet (fieldsFrom (suc (length f)) (headIn f) f 0)) (sym (file-first f) ∙ e) in
     let h = head-right f (t .0) in
-    let w = walk (suc (length f)) (headIn f) f 0 (omega arith) (h .room) (t .1) in
+    let w = readFrom (suc (length f)) (headIn f) f 0 (omega arith) (h .room) (t .1) in
     subst (λ (m : ℕ). Checked f m) (sym (whole-total f (w .last) (w .closed .whole)))
     (record { head = h; plunges = λ i b. w .plunges i (omega arith) b; closed = w .closed })
 
@@ -163,13 +163,15 @@ readable-writable f e bytes =
 -- ---- what is written is read back
 
 -- past the first field of a list
-next-field : (f : List ℕ) (m n : ℕ) (q : Plunge) (qs : List Plunge) → drop (place n) f ≡ plungeFields (q ∷ qs) ++ endField m → drop (place (suc n)) f ≡ plungeFields qs ++ endField m
+next-field : (f : List ℕ) (m n : ℕ) (q : Plunge) (qs : List Plunge) → drop (place n) f ≡ plungeFields (q ∷ qs) ++ endField m
+    → drop (place (suc n)) f ≡ plungeFields qs ++ endField m
 next-field f m n q qs e =
     let k : place (suc n) ≡ place n + 7 = omega arith in
     ap (λ (j : ℕ). drop j f) k ∙ sym (drop-drop 7 (place n) f) ∙ ap (drop 7) e
 
 -- the plunges of a file whose fields from the n-th on are those of a list
-gathered : (f : List ℕ) (m n : ℕ) (qs : List Plunge) → drop (place n) f ≡ plungeFields qs ++ endField m → gather (length qs) n (λ i. plungeAt f (place i) ∷ []) ≡ qs
+gathered : (f : List ℕ) (m n : ℕ) (qs : List Plunge) → drop (place n) f ≡ plungeFields qs ++ endField m
+    → gather (length qs) n (λ i. plungeAt f (place i) ∷ []) ≡ qs
 gathered f m n [] e = refl
 gathered f m n (q ∷ qs) e =
     let t = written-plunge f (place n) q (plungeFields qs ++ endField m) e in
@@ -190,24 +192,28 @@ encoded-plunges p qs =
     ap (λ (n : ℕ). plungesUpTo n (encoded p qs)) (encoded-total p qs) ∙ gathered (encoded p qs) (length qs) 0 qs (encoded-fields p qs)
 
 module _ (p : Head) (f : List ℕ) where
-  step-onward : (n : ℕ) (q : Plunge) (rest : List ℕ) → drop (place n) f ≡ plungeField q ++ rest → place n + 7 ≤ length f → fitsPlate p q ≡ true → 1 ≤ q .depth → stepAt p f n ≡ Onward
+  step-onward : (n : ℕ) (q : Plunge) (rest : List ℕ) → drop (place n) f ≡ plungeField q ++ rest → place n + 7 ≤ length f → fitsPlate p q ≡ true
+      → 1 ≤ q .depth → stepAt p f n ≡ Onward
   step-onward n q rest e h g d =
       let t = written-plunge f (place n) q rest e in
       let fits : fitsPlate p (plungeAt f (place n)) ≡ true = ap (fitsPlate p) (t .0) ∙ g in
       let deep : getD f (place n + 6) 0 ≡ q .depth = ap (λ o. o .depth) (t .0) in
       let allowed : cond (isEnd f (place n)) true (isPlunge f (place n)) ≡ true = (λ i. cond (t .2 i) true (t .1 i)) in
-      sym (field-content p f n Accepted (open-whole f (place n) (cond (isEnd f (place n)) true (isPlunge f (place n))) 4 (omega arith) (omega arith) true (sym allowed) refl (omega arith)) refl)
+      sym (field-content p f n Accepted (open-whole f (place n) (cond (isEnd f (place n)) true (isPlunge f (place n))) 4 (omega arith) (omega arith)
+      true (sym allowed) refl (omega arith)) refl)
       ∙ sym (content-plunge p f (place n) n Accepted (t .2) (plunge-right p f (place n) fits (λ z. omega arith)))
 
   step-ended : (n : ℕ) (rest : List ℕ) → drop (place n) f ≡ endField n ++ rest → n < 4294967296 → length f ≡ place n + 7 → stepAt p f n ≡ Ended
   step-ended n rest e h w =
       let t = written-end f (place n) n rest e h in
       let allowed : cond (isEnd f (place n)) true (isPlunge f (place n)) ≡ true = ap (λ b. cond b true (isPlunge f (place n))) (t .0) in
-      sym (field-content p f n Accepted (open-whole f (place n) (cond (isEnd f (place n)) true (isPlunge f (place n))) 4 (omega arith) (omega arith) true (sym allowed) refl (omega arith)) refl)
+      sym (field-content p f n Accepted (open-whole f (place n) (cond (isEnd f (place n)) true (isPlunge f (place n))) 4 (omega arith) (omega arith)
+      true (sym allowed) refl (omega arith)) refl)
       ∙ sym (content-end p f (place n) n Accepted (t .0) (end-right f (place n) n (t .1) (omega arith)))
 
   -- the fields of a list of right plunges, and the end, refuse nothing
-  walk-written : (more n m : ℕ) (qs : List Plunge) → drop (place n) f ≡ plungeFields qs ++ endField m → n + length qs ≡ m → m < 4294967296 → length f ≡ place m + 7
+  walk-written : (more n m : ℕ) (qs : List Plunge) → drop (place n) f ≡ plungeFields qs ++ endField m → n + length qs ≡ m → m < 4294967296
+      → length f ≡ place m + 7
       → length qs < more → ((q : Plunge) → List·Memᴰ q qs → (fitsPlate p q ≡ true) × (1 ≤ q .depth)) → firstMet (fieldsFrom more p f n) ≡ Accepted
   walk-written zero n m qs e s h w l r = absurd (omega arith)
   walk-written (suc more) n m [] e s h w l r =
@@ -228,7 +234,8 @@ head-written : (p : Head) (rest : List ℕ) → badSides (p .width) (p .height) 
 head-written p rest s =
     let f = headField p ++ rest in
     first-append (openTrials f 0 true 3) (plateTrials (kindByte (p .kind)) (p .width) (p .height))
-    ∙ ap (λ v. andThen v (firstMet (plateTrials (kindByte (p .kind)) (p .width) (p .height)))) (sym (open-whole f 0 true 3 (omega arith) (omega arith) true refl refl (omega arith)))
+    ∙ ap (λ v. andThen v (firstMet (plateTrials (kindByte (p .kind)) (p .width) (p .height))))
+    (sym (open-whole f 0 true 3 (omega arith) (omega arith) true refl refl (omega arith)))
     ∙ rw (kind-named (p .kind), s)
 
 pub encoded-readable : (p : Head) (qs : List Plunge) → Writable p qs → IsReadable (encoded p qs)
@@ -238,7 +245,8 @@ encoded-readable p qs w =
     subst (λ l. firstMet (headTrials l) ≡ Accepted) (sym (encoded-parts p qs))
     (head-written p (plungeFields qs ++ endField (length qs)) (sides-good (p .width) (p .height) (w .wide) (w .narrow) (w .tall) (w .low))) in
     let fields : firstMet (fieldsFrom (suc (length f)) p f 0) ≡ Accepted =
-    walk-written p f (suc (length f)) 0 (length qs) qs (encoded-fields p qs) (omega arith) (w .few) (omega (arith, encoded-length p qs)) (omega (arith, encoded-length p qs)) (w .right) in
+    walk-written p f (suc (length f)) 0 (length qs) qs (encoded-fields p qs) (omega arith) (w .few) (omega (arith, encoded-length p qs))
+    (omega (arith, encoded-length p qs)) (w .right) in
     file-first f
     ∙ ap (λ v. andThen v (firstMet (fieldsFrom (suc (length f)) (headIn f) f 0))) head
     ∙ ap (λ h. firstMet (fieldsFrom (suc (length f)) h f 0)) (encoded-head p qs)

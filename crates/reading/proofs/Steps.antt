@@ -22,8 +22,8 @@ use Rattle.refusal.proofs.Refusals.{map-sound}
 use Rattle.reading.specs.declared.MaybePlunge.{MaybePlunge}
 use Rattle.reading.specs.declared.MaybePlunge.the-variants.{OfPlunge, NoPlunge}
 use Rattle.reading.specs.declared.Step.the-variants.{Onward, Ended, Fault}
-use Rattle.reading.specs.Reading.{opens, isEnd, isPlunge, plungeAt, numberAt, openTrials, plateTrials, headTrials, plungeTrials, endTrials, place, fieldTrials, plungeIf}
-use Rattle.reading.specs.Steps.{opensEither, stepOf, rightStep, contentStep, stepAt}
+use Rattle.reading.specs.Reading.{opens, isEnd, isPlunge, plungeAt, numberAt, openTrials, plateTrials, headTrials, plungeTrials, endTrials, place, fieldTrials}
+use Rattle.reading.specs.Steps.{opensEither, stepOf, rightStep, contentStep, stepAt, plungeIf}
 
 -- ---- trials after trials
 
@@ -82,7 +82,8 @@ not-not true e = refl
 not-not false e = let z : _≡_ {A = ℕ} 0 1 = cc in absurd (omega arith)
 
 -- a field that opens has its content, and its tag and length are allowed
-pub opened : (f : List ℕ) (at : ℕ) (allowed : Bool) (size : ℕ) → firstMet (openTrials f at allowed size) ≡ Accepted → (at + (3 + size) ≤ length f) × (allowed ≡ true)
+pub opened : (f : List ℕ) (at : ℕ) (allowed : Bool) (size : ℕ) → firstMet (openTrials f at allowed size) ≡ Accepted → (at + (3 + size) ≤ length f)
+    × (allowed ≡ true)
 opened f at allowed size e =
     let six : Refusal = record { number = 6; place = at } in
     let a = cond-accepted (ltb (length f) (at + 3)) six (firstMet (trial (not allowed) 7 at ∷ trial (ltb (length f) (at + (3 + size))) 6 at ∷ [])) e in
@@ -255,9 +256,11 @@ module _ (p : Head) (f : List ℕ) (n : ℕ) where
 
 -- ---- contents that refuse nothing
 
-pub right-plunge : (p : Head) (f : List ℕ) (at : ℕ) → firstMet (plungeTrials p f at) ≡ Accepted → (fitsPlate p (plungeAt f at) ≡ true) × (1 ≤ plungeAt f at .depth)
+pub right-plunge : (p : Head) (f : List ℕ) (at : ℕ) → firstMet (plungeTrials p f at) ≡ Accepted → (fitsPlate p (plungeAt f at) ≡ true)
+    × (1 ≤ plungeAt f at .depth)
 right-plunge p f at e =
-    let a = cond-accepted (not (fitsPlate p (plungeAt f at))) (record { number = 8; place = at }) (firstMet (trial (eqb (plungeAt f at .depth) 0) 9 at ∷ [])) e in
+    let a = cond-accepted (not (fitsPlate p (plungeAt f at))) (record { number = 8; place = at })
+    (firstMet (trial (eqb (plungeAt f at .depth) 0) 9 at ∷ [])) e in
     let b = cond-accepted (eqb (plungeAt f at .depth) 0) (record { number = 9; place = at }) Accepted (a .1) in
     let d = eqb-false (plungeAt f at .depth) 0 (b .0) in
     (not-not _ (a .0), omega arith)

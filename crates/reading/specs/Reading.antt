@@ -3,20 +3,17 @@ use mathlib.Core.Path.{_≡_}
 use mathlib.Core.Bool.{Bool, true, false, cond, not}
 use mathlib.Core.List.{List, [], _∷_, _++_}
 use Prim.Native.Nat.{ℕ, zero, suc, _+_, _-_, _*_, _/_}
-use lib.Dec.{leb, ltb, eqb}
+use lib.Dec.{ltb, eqb}
 use lib.ListN.{length, getD}
 use Rattle.geometry.specs.declared.Head.{Head}
 use Rattle.geometry.specs.declared.Plunge.{Plunge}
 use Rattle.geometry.specs.Lists.{gather}
-use Rattle.geometry.specs.Forms.{largestReach}
 use Rattle.geometry.specs.Plunges.{fitsPlate}
 use Rattle.refusal.specs.declared.Verdict.{Verdict}
 use Rattle.refusal.specs.declared.Verdict.the-variants.{Accepted, Refused}
 use Rattle.refusal.specs.Refusals.{Trial, trial, firstMet, badKind, badSides, headOf}
 use Rattle.reading.specs.declared.ReadAnswer.{ReadAnswer}
 use Rattle.reading.specs.declared.ReadAnswer.the-variants.{Readable, Unreadable}
-use Rattle.reading.specs.declared.MaybePlunge.{MaybePlunge}
-use Rattle.reading.specs.declared.MaybePlunge.the-variants.{OfPlunge, NoPlunge}
 
 -- ---- the bytes of a field that begins at a place
 
@@ -113,7 +110,3 @@ readAnswer (Refused r) f = Unreadable r
 
 abbrev pub read : List ℕ → ReadAnswer
 read f = readAnswer (firstMet (fileTrials f)) f
-
--- the plunge of a field whose reach is one
-abbrev pub plungeIf : List ℕ → ℕ → MaybePlunge
-plungeIf f at = cond (leb (getD f (at + 5) 0) largestReach) (OfPlunge (plungeAt f at)) NoPlunge

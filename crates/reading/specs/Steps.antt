@@ -1,14 +1,19 @@
 -- What one field after the head tells the reader.
 use mathlib.Core.Bool.{Bool, true, cond}
 use mathlib.Core.List.{List}
-use Prim.Native.Nat.{ℕ}
+use Prim.Native.Nat.{ℕ, _+_}
+use lib.Dec.{leb}
+use lib.ListN.{getD}
+use Rattle.geometry.specs.Forms.{largestReach}
+use Rattle.reading.specs.declared.MaybePlunge.{MaybePlunge}
+use Rattle.reading.specs.declared.MaybePlunge.the-variants.{OfPlunge, NoPlunge}
 use Rattle.geometry.specs.declared.Head.{Head}
 use Rattle.refusal.specs.declared.Verdict.{Verdict}
 use Rattle.refusal.specs.declared.Verdict.the-variants.{Accepted, Refused}
 use Rattle.refusal.specs.Refusals.{firstMet}
 use Rattle.reading.specs.declared.Step.{Step}
 use Rattle.reading.specs.declared.Step.the-variants.{Onward, Ended, Fault}
-use Rattle.reading.specs.Reading.{opens, isEnd, plungeTrials, endTrials, place, fieldTrials}
+use Rattle.reading.specs.Reading.{opens, isEnd, plungeTrials, endTrials, place, fieldTrials, plungeAt}
 
 -- a field with one of two tags begins at a place
 abbrev pub opensEither : ℕ → ℕ → ℕ → List ℕ → ℕ → Bool
@@ -29,3 +34,7 @@ contentStep p f at n = stepOf (rightStep f at) (firstMet (cond (isEnd f at) (end
 
 abbrev pub stepAt : Head → List ℕ → ℕ → Step
 stepAt p f n = stepOf (rightStep f (place n)) (firstMet (fieldTrials p f n))
+
+-- the plunge of a field whose reach is one
+abbrev pub plungeIf : List ℕ → ℕ → MaybePlunge
+plungeIf f at = cond (leb (getD f (at + 5) 0) largestReach) (OfPlunge (plungeAt f at)) NoPlunge

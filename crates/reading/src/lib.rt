@@ -9,8 +9,8 @@ ghost use mathlib.Core.Path.{_≡_};
 ghost use Prim.Native.Nat.{suc, _+_, _≤_};
 ghost use lib.ListN.{length};
 ghost use Rattle.refusal.specs.Refusals.{largestSide, firstMet};
-ghost use Rattle.reading.specs.Reading.{opens, headIn, numberAt, openTrials, plateTrials, headTrials, plungeTrials, endTrials, place, fieldsFrom, readAnswer, read, plungeIf};
-ghost use Rattle.reading.specs.Steps.{opensEither, stepOf, contentStep, stepAt};
+ghost use Rattle.reading.specs.Reading.{opens, headIn, numberAt, openTrials, plateTrials, headTrials, plungeTrials, endTrials, place, fieldsFrom, readAnswer, read};
+ghost use Rattle.reading.specs.Steps.{opensEither, stepOf, contentStep, stepAt, plungeIf};
 
 // What a readable file says: its plate, and how many plunges follow.
 pub struct Job {

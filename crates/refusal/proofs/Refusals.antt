@@ -1,16 +1,16 @@
 -- Laws of refusals: which is given by the tests that led to it, what acceptance says, and the shortest buffer stands for all.
-use mathlib.Core.Path.{_≡_, refl, sym, ap, _∙_}
+use mathlib.Core.Path.{_≡_, refl, ap}
 use mathlib.Core.Bool.{Bool, true, false, cond, not}
 use mathlib.Core.List.{List, [], _∷_}
 use Prim.Native.Nat.{ℕ, _*_, _≤_, _<_, min}
 use native.Mathlib.Omega.{arith}
-use native.Mathlib.Nat.{lt-of-le-of-lt, mul-le-mul}
+use native.Mathlib.Nat.{mul-le-mul}
 use borrow.Author.Tests.{ltb-true, ltb-false, lt-ltb, le-ltb, leb-true}
-use lib.Dec.{leb, ltb, eqb}
+use lib.Dec.{leb, ltb}
 use Rattle.geometry.specs.Lists.{any}
 use Rattle.refusal.specs.declared.Verdict.{Verdict}
 use Rattle.refusal.specs.declared.Verdict.the-variants.{Accepted, Refused}
-use Rattle.refusal.specs.Refusals.{firstMet, isSide, largestSide, isRung, largestRung, badKind, badSides, short, sideTrials, mapTrials}
+use Rattle.refusal.specs.Refusals.{firstMet, isSide, largestSide, isErosionNumber, largestErosion, badKind, badSides, short, sideTrials, mapTrials}
 
 -- two sides of 16 bits have a product that a length can be compared with
 pub area-fits : (w h : ℕ) → w < 65536 → h < 65536 → h * w < 4294967296
@@ -37,7 +37,8 @@ module _ (w h : ℕ) (wrong : Bool) (n : ℕ) where
   gives-none e g l = rw (e, g, le-ltb _ _ l)
 
 -- a verdict asks of the buffers only whether one is short
-pub same-verdict : (k w h : ℕ) (wrong : Bool) (some others : List ℕ) → short w h some ≡ short w h others → firstMet (mapTrials k w h wrong some) ≡ firstMet (mapTrials k w h wrong others)
+pub same-verdict : (k w h : ℕ) (wrong : Bool) (some others : List ℕ) → short w h some ≡ short w h others
+    → firstMet (mapTrials k w h wrong some) ≡ firstMet (mapTrials k w h wrong others)
 same-verdict k w h wrong some others e =
     ap (λ (b : Bool). cond (badKind k) (refused 1) (cond (badSides w h) (refused 2) (cond wrong (refused 3) (cond b (refused 4) Accepted)))) e
 
@@ -80,7 +81,8 @@ sides-ok w h = go (isSide w) (isSide h) refl refl
 pub sound : (w h : ℕ) (wrong : Bool) (n : ℕ) → firstMet (sideTrials w h wrong (n ∷ [])) ≡ Accepted → Sound w h wrong n
 sound w h wrong n = go (badSides w h) wrong (ltb n (h * w)) refl refl refl
   where
-    go : (a b c : Bool) → badSides w h ≡ a → wrong ≡ b → ltb n (h * w) ≡ c → cond a (refused 2) (cond b (refused 3) (cond (cond c true false) (refused 4) Accepted)) ≡ Accepted → Sound w h wrong n
+    go : (a b c : Bool) → badSides w h ≡ a → wrong ≡ b → ltb n (h * w) ≡ c
+        → cond a (refused 2) (cond b (refused 3) (cond (cond c true false) (refused 4) Accepted)) ≡ Accepted → Sound w h wrong n
     go true b c e g k v = absurd (refused-not 2 v)
     go false true c e g k v = absurd (refused-not 3 v)
     go false false true e g k v = absurd (refused-not 4 v)
@@ -98,10 +100,10 @@ map-sound k w h wrong n = go (badKind k)
     go false v = sound w h wrong n v
 
 -- a rung number that was not refused
-pub rung-ok : (n : ℕ) → not (isRung n) ≡ false → (1 ≤ n) × (n ≤ largestRung)
-rung-ok n = go (leb 1 n) (leb n largestRung) refl refl
+pub erosion-number-ok : (n : ℕ) → not (isErosionNumber n) ≡ false → (1 ≤ n) × (n ≤ largestErosion)
+erosion-number-ok n = go (leb 1 n) (leb n largestErosion) refl refl
   where
-    go : (a b : Bool) → leb 1 n ≡ a → leb n largestRung ≡ b → not (cond a b false) ≡ false → (1 ≤ n) × (n ≤ largestRung)
+    go : (a b : Bool) → leb 1 n ≡ a → leb n largestErosion ≡ b → not (cond a b false) ≡ false → (1 ≤ n) × (n ≤ largestErosion)
     go true true e g k = (leb-true _ _ e, leb-true _ _ g)
     go true false e g k = let z : _≡_ {A = ℕ} 0 1 = cc in absurd (omega arith)
     go false b e g k = let z : _≡_ {A = ℕ} 0 1 = cc in absurd (omega arith)

@@ -33,12 +33,12 @@ abbrev pub isSide : ℕ → Bool
 isSide n = cond (leb 1 n) (leb n largestSide) false
 
 -- the largest rung and residue number
-abbrev pub largestRung : ℕ
-largestRung = 120
+abbrev pub largestErosion : ℕ
+largestErosion = 120
 
 -- a number from 1 to the largest rung
-abbrev pub isRung : ℕ → Bool
-isRung n = cond (leb 1 n) (leb n largestRung) false
+abbrev pub isErosionNumber : ℕ → Bool
+isErosionNumber n = cond (leb 1 n) (leb n largestErosion) false
 
 -- "1: kind not 4 or 8"
 abbrev pub badKind : ℕ → Bool

@@ -5,7 +5,7 @@ use geometry::MaybeKind;
 ghost use mathlib.Core.Path.{_≡_};
 ghost use mathlib.Core.List.{[], _∷_};
 ghost use Prim.Native.Nat.{min};
-ghost use Rattle.refusal.specs.Refusals.{isSide, badSides, isRung, headOf, firstMet, sideTrials, mapTrials};
+ghost use Rattle.refusal.specs.Refusals.{isSide, badSides, isErosionNumber, headOf, firstMet, sideTrials, mapTrials};
 
 // A number of document 01's table, and a place.
 pub struct Refusal {
@@ -23,7 +23,7 @@ pub enum Verdict {
 pub const LARGEST_SIDE: u16 = 240;
 
 // A rung or residue number is 1 to this.
-pub const LARGEST_RUNG: u16 = 120;
+pub const LARGEST_EROSION: u16 = 120;
 
 fn is_side(n: u16) -> bool
     ensures { λ r. ⌜ r ≡ isSide n ⌝ }
@@ -32,10 +32,10 @@ fn is_side(n: u16) -> bool
 }
 
 // Whether a number is one of a rung or a residue.
-pub fn is_rung(n: u16) -> bool
-    ensures { λ r. ⌜ r ≡ isRung n ⌝ }
+pub fn is_erosion_number(n: u16) -> bool
+    ensures { λ r. ⌜ r ≡ isErosionNumber n ⌝ }
 {
-    if 1 <= n { n <= LARGEST_RUNG } else { false }
+    if 1 <= n { n <= LARGEST_EROSION } else { false }
 }
 
 fn refuse(number: u8) -> Verdict

@@ -1,15 +1,12 @@
 -- The whole table, number by number: one computed test says that each entry is its formula's and below the next.
-use mathlib.Core.Path.{_≡_, refl}
+use mathlib.Core.Path.{_≡_}
 use mathlib.Core.Bool.{Bool, true, cond}
 use mathlib.Core.List.{List, [], _∷_}
-use Prim.Native.Nat.{ℕ, suc, _+_, _<_}
+use Prim.Native.Nat.{ℕ, suc, _<_}
 use native.Mathlib.Omega.{arith}
-use native.Mathlib.Numerals.{add-one}
 use lib.Dec.{T, eqb, ltb, eqb→eq, ltb→lt}
-use lib.IntN.{pos}
-use lib.Ieee.{binary64, ofBits, ofInt}
-use lib.ListN.{getD, length}
-use Rattle.sink.specs.Sink.{micrometres, whole}
+use lib.ListN.{getD}
+use Rattle.sink.specs.Sink.{micrometres}
 use Rattle.sink.proofs.Entries.{both, both-left, both-right, at}
 
 -- the numbers of the code's array
@@ -40,11 +37,15 @@ whole-table : (d : ℕ) → d < 256 → T (right d (getD table d 0))
 whole-table = at right table tt
 
 pub entry : (d : ℕ) → d < 256 → getD table d 0 ≡ micrometres d
-entry d h = eqb→eq (getD table d 0) (micrometres d) (both-left (eqb (getD table d 0) (micrometres d)) (cond (ltb d 255) (ltb (getD table d 0) (getD table (suc d) 0)) true) (whole-table d h))
+entry d h = eqb→eq (getD table d 0) (micrometres d)
+    (both-left (eqb (getD table d 0) (micrometres d)) (cond (ltb d 255) (ltb (getD table d 0) (getD table (suc d) 0)) true) (whole-table d h))
 
 -- "strictly rising"
 pub rises : (d : ℕ) → d < 255 → getD table d 0 < getD table (suc d) 0
-rises d h = ltb→lt (getD table d 0) (getD table (suc d) 0) (go (ltb d 255) (borrow.Author.Tests.lt-ltb d 255 h) (both-right (eqb (getD table d 0) (micrometres d)) (cond (ltb d 255) (ltb (getD table d 0) (getD table (suc d) 0)) true) (whole-table d (omega arith))))
+rises d h = ltb→lt (getD table d 0) (getD table (suc d) 0)
+    (go (ltb d 255) (borrow.Author.Tests.lt-ltb d 255 h)
+    (both-right (eqb (getD table d 0) (micrometres d)) (cond (ltb d 255) (ltb (getD table d 0) (getD table (suc d) 0)) true)
+    (whole-table d (omega arith))))
   where
     go : (b : Bool) → b ≡ true → T (cond b (ltb (getD table d 0) (getD table (suc d) 0)) true) → T (ltb (getD table d 0) (getD table (suc d) 0))
     go true e t = t

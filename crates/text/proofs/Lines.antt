@@ -10,7 +10,7 @@ use borrow.Author.Tests.{lt-ltb, le-ltb}
 use Rattle.fields.specs.Writing.{spliced}
 use Rattle.fields.proofs.Splice.{splice-splice, splice-length}
 use Rattle.io.specs.Counts.{Counts}
-use Rattle.text.specs.Text.{numeral, word, Puts}
+use Rattle.text.specs.Text.{word, Puts}
 
 pub puts-length : (old : List ℕ) (at : ℕ) (xs new : List ℕ) (r : ℕ) → Puts old at xs new r → r ≤ length old → length new ≡ length old
 puts-length old at xs new r p h = ap length (p .0) ∙ splice-length old at xs (omega (arith, p .1))

@@ -1,18 +1,17 @@
 -- The cells of a ball as a list; and when one ball lies in another.
-use mathlib.Core.Path.{_≡_, refl, sym, ap, _∙_}
+use mathlib.Core.Path.{_≡_, sym, ap}
 use mathlib.Core.Logic.{_⊎_, inl, inr, _↔_}
-use mathlib.Core.Bool.{cond}
-use mathlib.Core.List.{List, [], _∷_, _++_, List·Memᴰ, List·Memᴰ·head, List·Memᴰ·tail, Memᴰ·append-left, Memᴰ·append-right}
+use mathlib.Core.List.{[], _∷_, List·Memᴰ, List·Memᴰ·head, List·Memᴰ·tail, Memᴰ·append-left, Memᴰ·append-right}
 use Prim.Native.Nat.{ℕ, zero, suc, _+_, _-_, _≤_, _<_}
 use native.Mathlib.Omega.{arith}
 use native.Mathlib.Decide.{decLe}
 use borrow.Author.Tests.{le-leb, leb-true, lt-ltb, le-ltb}
-use lib.Dec.{leb, ltb}
+use lib.Dec.{leb}
 use lib.IntN.{ℤ, pos, negsuc, _+ℤ_, _-ℤ_}
 use Rattle.geometry.specs.declared.Kind.{Kind}
 use Rattle.geometry.specs.declared.Kind.the-variants.{Diamond, Square}
 use Rattle.geometry.specs.Plane.{Cell, gap, dist, Ball, crossing, span, ball}
-use Rattle.geometry.specs.Plunges.{Within}
+use Rattle.geometry.specs.Plunges.{BallWithin}
 use Rattle.theory.proofs.Lists.{select-in, select-out, crossing-in}
 use Rattle.theory.proofs.Distance.{gap-zero, dist-sym, dist-tri, beyond}
 
@@ -56,7 +55,8 @@ pub ball-in : (kd : Kind) (c : Cell) (r : ℕ) {o : Cell} → Ball kd c r o → 
 unfolding ball
 ball-in kd c r {o} h =
     select-in (λ o. leb (dist kd c o) r) (crossing (span (c .col) r) (span (c .row) r))
-    (crossing-in (span (c .col) r) (span (c .row) r) (span-in (c .col) (o .col) r (omega (arith, col-near kd c o))) (span-in (c .row) (o .row) r (omega (arith, row-near kd c o))))
+    (crossing-in (span (c .col) r) (span (c .row) r) (span-in (c .col) (o .col) r (omega (arith, col-near kd c o)))
+    (span-in (c .row) (o .row) r (omega (arith, row-near kd c o))))
     (le-leb _ _ h)
 
 pub ball-out : (kd : Kind) (c : Cell) (r : ℕ) {o : Cell} → List·Memᴰ o (ball kd c r) → Ball kd c r o
@@ -64,11 +64,11 @@ unfolding ball
 ball-out kd c r m = leb-true _ _ (select-out (λ o. leb (dist kd c o) r) (crossing (span (c .col) r) (span (c .row) r)) m .1)
 
 -- a ball lies in another exactly when the distance of the centres plus its reach is at most the other reach
-pub within-sum : (kd : Kind) (c : Cell) (r : ℕ) (d : Cell) (s : ℕ) → Within kd c r d s → dist kd c d + r ≤ s
+pub within-sum : (kd : Kind) (c : Cell) (r : ℕ) (d : Cell) (s : ℕ) → BallWithin kd c r d s → dist kd c d + r ≤ s
 within-sum kd c r d s h = let o = beyond kd d c r in omega (arith, h (o .0) (o .1), o .2, dist-sym kd c d)
 
-pub sum-within : (kd : Kind) (c : Cell) (r : ℕ) (d : Cell) (s : ℕ) → dist kd c d + r ≤ s → Within kd c r d s
+pub sum-within : (kd : Kind) (c : Cell) (r : ℕ) (d : Cell) (s : ℕ) → dist kd c d + r ≤ s → BallWithin kd c r d s
 sum-within kd c r d s h o g = omega (arith, dist-tri kd d c o, dist-sym kd c d)
 
-pub within-iff : (kd : Kind) (c : Cell) (r : ℕ) (d : Cell) (s : ℕ) → Within kd c r d s ↔ (dist kd c d + r ≤ s)
+pub within-iff : (kd : Kind) (c : Cell) (r : ℕ) (d : Cell) (s : ℕ) → BallWithin kd c r d s ↔ (dist kd c d + r ≤ s)
 within-iff kd c r d s = (within-sum kd c r d s, sum-within kd c r d s)

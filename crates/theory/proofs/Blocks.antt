@@ -27,8 +27,10 @@ module _ (limit : ℕ) (h : 2 ≤ limit) where
         cleared = tabulated (b .plate) (clearance (b .plate) (b .relief) 1);
         medial = tabulated (b .plate) (axis (b .plate) (b .relief) 1);
         restored = tabulated (b .plate) (reconstructed (b .plate) (tabulated (b .plate) (axis (b .plate) (b .relief) 1)));
-        largest = tabulated-same (b .plate) (largestResidue (b .plate) limit (b .relief)) (largestResidue (b .plate) 2 (b .relief)) (λ c o. largestResidue-limit (b .plate) (b .relief) 2 limit s h c) i;
-        summed = tabulated-same (b .plate) (residueSum (b .plate) limit (b .relief)) (residueSum (b .plate) 2 (b .relief)) (λ c o. residueSum-limit (b .plate) (b .relief) 2 limit s h c) i;
+        largest = tabulated-same (b .plate) (largestResidue (b .plate) limit (b .relief)) (largestResidue (b .plate) 2 (b .relief))
+            (λ c o. largestResidue-limit (b .plate) (b .relief) 2 limit s h c) i;
+        summed = tabulated-same (b .plate) (residueSum (b .plate) limit (b .relief)) (residueSum (b .plate) 2 (b .relief))
+            (λ c o. residueSum-limit (b .plate) (b .relief) 2 limit s h c) i;
         drawn = drawing (b .plate) (b .source);
         tidied = listing-limit (b .plate) limit (drawing (b .plate) (b .source)) 2 s h i;
       }

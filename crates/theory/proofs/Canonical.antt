@@ -12,7 +12,7 @@ use Rattle.geometry.specs.Lists.{gather, lowest}
 use Rattle.geometry.specs.Plane.{Cell, cell, ball}
 use Rattle.geometry.specs.Plate.{at, area}
 use Rattle.theory.specs.Erosion.{erosion, highestNear, residue}
-use Rattle.theory.specs.Listing.{listing, listedAt, drawing, canonical}
+use Rattle.theory.specs.Listing.{listing, drawing, canonical}
 use Rattle.theory.proofs.Plate.{at-prefix}
 use Rattle.theory.proofs.Drawing.{at-drawing-listing}
 
@@ -44,8 +44,10 @@ module _ (p : Head) where
 module _ (p : Head) (limit : ℕ) (sides : min (p .width) (p .height) ≤ 2 * limit) where
   -- reliefs are the same, at every cell, exactly when their listings are
   pub listing-iff : (m n : List ℕ) → (listing p limit m ≡ listing p limit n) ↔ ((c : Cell) → at p m c ≡ at p n c)
-  listing-iff m n =
-      ((λ e c. sym (at-drawing-listing p limit m sides c) ∙ ap (λ l. at p (drawing p l) c) e ∙ at-drawing-listing p limit n sides c), λ h. listing-same p limit m n (fun-ext h))
+  listing-iff m n = (
+    (λ e c. sym (at-drawing-listing p limit m sides c) ∙ ap (λ l. at p (drawing p l) c) e ∙ at-drawing-listing p limit n sides c),
+    λ h. listing-same p limit m n (fun-ext h),
+  )
 
   -- lists that draw the same relief have the same canonical form, and no others have
   pub canonical-iff : (qs os : List Plunge) → (canonical p limit qs ≡ canonical p limit os) ↔ ((c : Cell) → at p (drawing p qs) c ≡ at p (drawing p os) c)

@@ -1,8 +1,7 @@
 -- The laws of distance that all else rests on: it is a metric, a neighbour is at most 1 away, a step leads nearer, and from any cell one can go away from another one.
-use mathlib.Core.Path.{_≡_, refl, sym, ap, _∙_, subst}
-use mathlib.Core.Logic.{_⊎_, inl, inr}
+use mathlib.Core.Path.{_≡_, refl, sym, ap, subst}
 use mathlib.Core.List.{List, [], _∷_, List·Memᴰ, List·Memᴰ·head, List·Memᴰ·tail, List·Memᴰ·not-nil}
-use Prim.Native.Nat.{ℕ, zero, suc, _+_, _-_, _≤_, _<_, max}
+use Prim.Native.Nat.{ℕ, zero, suc, _+_, _-_, _≤_, max}
 use native.Mathlib.Omega.{arith}
 use native.Mathlib.Decide.{decLe}
 use lib.IntN.{ℤ, pos, negsuc, sucℤ, predℤ}
@@ -145,7 +144,8 @@ near Diamond c m = all (λ n. dist Diamond c n ≤ 1) (window Diamond c) (n₀, 
 
     n₄ : dist Diamond c (south c) ≤ 1
     n₄ = omega (arith, gap-self (c .col), gap-moved on (c .row))
-near Square c m = all (λ n. dist Square c n ≤ 1) (window Square c) (f stay stay, (f back back, (f stay back, (f on back, (f back stay, (f on stay, (f back on, (f stay on, (f on on, tt))))))))) m
+near Square c m = all (λ n. dist Square c n ≤ 1) (window Square c)
+    (f stay stay, (f back back, (f stay back, (f on back, (f back stay, (f on stay, (f back on, (f stay on, (f on on, tt))))))))) m
   where
     f : (s t : Move) → max (gap (c .col) (moved s (c .col))) (gap (c .row) (moved t (c .row))) ≤ 1
     f s t = omega (arith, gap-moved s (c .col), gap-moved t (c .row))
@@ -163,7 +163,8 @@ sq back stay c = List·Memᴰ·tail (List·Memᴰ·tail (List·Memᴰ·tail (Lis
 sq on stay c = List·Memᴰ·tail (List·Memᴰ·tail (List·Memᴰ·tail (List·Memᴰ·tail (List·Memᴰ·tail (List·Memᴰ·head refl)))))
 sq back on c = List·Memᴰ·tail (List·Memᴰ·tail (List·Memᴰ·tail (List·Memᴰ·tail (List·Memᴰ·tail (List·Memᴰ·tail (List·Memᴰ·head refl))))))
 sq stay on c = List·Memᴰ·tail (List·Memᴰ·tail (List·Memᴰ·tail (List·Memᴰ·tail (List·Memᴰ·tail (List·Memᴰ·tail (List·Memᴰ·tail (List·Memᴰ·head refl)))))))
-sq on on c = List·Memᴰ·tail (List·Memᴰ·tail (List·Memᴰ·tail (List·Memᴰ·tail (List·Memᴰ·tail (List·Memᴰ·tail (List·Memᴰ·tail (List·Memᴰ·tail (List·Memᴰ·head refl))))))))
+sq on on c = List·Memᴰ·tail (List·Memᴰ·tail (List·Memᴰ·tail
+    (List·Memᴰ·tail (List·Memᴰ·tail (List·Memᴰ·tail (List·Memᴰ·tail (List·Memᴰ·tail (List·Memᴰ·head refl))))))))
 
 di-col : (s : Move) (c : Cell) → List·Memᴰ (go-to s stay c) (window Diamond c)
 di-col stay c = List·Memᴰ·head refl

@@ -1,9 +1,9 @@
 -- Drawing: the one number that the rule describes; drawing the listing of a relief gives that relief.
 use mathlib.Core.Path.{_≡_, refl, sym, ap, _∙_, subst}
 use mathlib.Core.Logic.{_⊎_, inl, inr}
-use mathlib.Core.Bool.{Bool, true, false}
+use mathlib.Core.Bool.{true}
 use mathlib.Core.List.{List, [], _∷_, map, List·Memᴰ, List·Memᴰ·head, List·Memᴰ·not-nil}
-use Prim.Native.Nat.{ℕ, zero, suc, _+_, _*_, _-_, _≤_, _<_, min}
+use Prim.Native.Nat.{ℕ, _*_, _≤_, min}
 use native.Mathlib.Omega.{arith}
 use native.Mathlib.Decide.{decLe}
 use borrow.Author.Tests.{le-leb, leb-true}
@@ -12,16 +12,15 @@ use Rattle.geometry.specs.declared.Kind.{Kind}
 use Rattle.geometry.specs.declared.Head.{Head}
 use Rattle.geometry.specs.declared.Plunge.{Plunge}
 use Rattle.geometry.specs.Lists.{select, highest}
-use Rattle.geometry.specs.Plane.{Cell, dist}
-use Rattle.geometry.specs.Plate.{On, area, at, tabulated}
-use Rattle.geometry.specs.Plunges.{centre, Covers, covers}
-use Rattle.theory.specs.Erosion.{erosion}
-use Rattle.theory.specs.Listing.{Fits, listing, IsDrawn, drawn, drawing}
-use Rattle.theory.proofs.Lists.{select-in, select-out, highest-bound, highest-met, highest-unique}
+use Rattle.geometry.specs.Plane.{Cell}
+use Rattle.geometry.specs.Plate.{On, area, at}
+use Rattle.geometry.specs.Plunges.{Covers, covers}
+use Rattle.theory.specs.Listing.{listing, IsDrawn, drawn, drawing}
+use Rattle.theory.proofs.Lists.{select-in, select-out, highest-bound, highest-met}
 use Rattle.theory.proofs.Distance.{dist-self}
 use Rattle.theory.proofs.Plate.{on-or-off, at-tabulated, tabulated-same, tabulated-at}
 use Rattle.theory.proofs.Erosion.{erosion-zero}
-use Rattle.theory.proofs.Listing.{climb, listed-fits}
+use Rattle.theory.proofs.Listing.{enlarge, listed-fits}
 
 module _ (kd : Kind) (qs : List Plunge) (c : Cell) where
   -- as deep as each plunge whose ball holds the cell
@@ -50,7 +49,10 @@ module _ (kd : Kind) (qs : List Plunge) (c : Cell) where
   drawn-is = go (select (λ q. covers kd q c) qs) refl
     where
       go : (l : List Plunge) → select (λ q. covers kd q c) qs ≡ l → IsDrawn kd qs c (drawn kd qs c)
-      go [] e = inr ((λ q m h. List·Memᴰ·not-nil (rw e at (select-in (λ q. covers kd q c) qs m (le-leb _ _ h)))), ap (λ (l : List Plunge). highest 0 (map (λ q. q .depth) l)) e)
+      go [] e = inr (
+        (λ q m h. List·Memᴰ·not-nil (rw e at (select-in (λ q. covers kd q c) qs m (le-leb _ _ h)))),
+        ap (λ (l : List Plunge). highest 0 (map (λ q. q .depth) l)) e,
+      )
       go (o ∷ os) e = inl (record { bound = λ q m. le-drawn (m .0) (m .1); met = some (decLe 1 (drawn kd qs c)) })
         where
           s : List·Memᴰ o qs × (covers kd o c ≡ true)
@@ -76,7 +78,7 @@ module _ (p : Head) (limit : ℕ) (m : List ℕ) (sides : min (p .width) (p .hei
       go : Dec (1 ≤ at p m c) → drawn (p .kind) (listing p limit m) c ≡ at p m c
       go (no h) = omega (arith, over)
       go (yes h) =
-          let t = climb p limit m sides limit 0 c (at p m c) (omega arith) h (omega (arith, erosion-zero p m c)) in
+          let t = enlarge p limit m sides limit 0 c (at p m c) (omega arith) h (omega (arith, erosion-zero p m c)) in
           omega (arith, over, le-drawn (p .kind) (listing p limit m) c (t .1) (t .2 c (omega (arith, dist-self (p .kind) c))), t .3)
 
   -- and byte for byte

@@ -1,8 +1,8 @@
 -- Erosions: each is the lowest depth of its ball, comes from the one before by one step, falls, and is 0 from half the smaller side on.
 use mathlib.Core.Path.{_≡_, refl, sym, ap, _∙_, subst}
 use mathlib.Core.Logic.{_⊎_, inl, inr}
-use mathlib.Core.List.{List, [], _∷_, map, List·Memᴰ, List·Memᴰ·head, List·Memᴰ·tail}
-use Prim.Native.Nat.{ℕ, zero, suc, _+_, _*_, _-_, _≤_, _<_, min}
+use mathlib.Core.List.{List, _∷_, List·Memᴰ, List·Memᴰ·head, List·Memᴰ·tail}
+use Prim.Native.Nat.{ℕ, suc, _*_, _≤_, _<_, min}
 use native.Mathlib.Omega.{arith}
 use native.Mathlib.Nat.{le-of-eq}
 use native.Mathlib.Decide.{decLe}
@@ -14,7 +14,8 @@ use Rattle.geometry.specs.declared.Head.{Head}
 use Rattle.geometry.specs.Lists.{Lowest}
 use Rattle.geometry.specs.Plane.{Cell, cell, gap, dist, Ball, ball, neighbours}
 use Rattle.geometry.specs.Plate.{On, at, tabulated}
-use Rattle.theory.specs.Erosion.{IsErosion, erosion, lowestNear, highestNear}
+use Rattle.theory.specs.Erosion.{IsErosion, erosion, highestNear}
+use Rattle.theory.specs.Near.{lowestNear}
 use Rattle.theory.proofs.Lists.{min-choice, max-choice, fold-extreme, extreme-among, lowest-unique}
 use Rattle.theory.proofs.Distance.{gap-self, dist-self, dist-sym, dist-tri, dist-zero, near, step, window}
 use Rattle.theory.proofs.Balls.{ball-in, ball-out}
@@ -115,12 +116,16 @@ module _ (p : Head) (m : List ℕ) where
       south-off x h = let g : p .height ≤ p .height = omega arith in rw (lt-ltb _ _ h, le-ltb _ _ g)
 
       wide : (o : On p c) → p .width ≤ 2 * limit → Dec (suc (o .column) ≤ limit) → erosion p m limit c ≡ 0
-      wide o h (yes g) = low (record { col = negsuc 0; row = pos (o .row) }) refl (here o _ (across (p .kind) (pos (o .column)) (negsuc 0) (pos (o .row)) limit (omega arith)))
-      wide o h (no g) = low (cell (p .width) (o .row)) (east-off (o .row)) (here o _ (across (p .kind) (pos (o .column)) (pos (p .width)) (pos (o .row)) limit (omega (arith, o .left))))
+      wide o h (yes g) = low (record { col = negsuc 0; row = pos (o .row) }) refl
+          (here o _ (across (p .kind) (pos (o .column)) (negsuc 0) (pos (o .row)) limit (omega arith)))
+      wide o h (no g) = low (cell (p .width) (o .row)) (east-off (o .row))
+          (here o _ (across (p .kind) (pos (o .column)) (pos (p .width)) (pos (o .row)) limit (omega (arith, o .left))))
 
       tall : (o : On p c) → p .height ≤ 2 * limit → Dec (suc (o .row) ≤ limit) → erosion p m limit c ≡ 0
-      tall o h (yes g) = low (record { col = pos (o .column); row = negsuc 0 }) refl (here o _ (down (p .kind) (pos (o .column)) (pos (o .row)) (negsuc 0) limit (omega arith)))
-      tall o h (no g) = low (cell (o .column) (p .height)) (south-off (o .column) (o .left)) (here o _ (down (p .kind) (pos (o .column)) (pos (o .row)) (pos (p .height)) limit (omega (arith, o .upper))))
+      tall o h (yes g) = low (record { col = pos (o .column); row = negsuc 0 }) refl
+          (here o _ (down (p .kind) (pos (o .column)) (pos (o .row)) (negsuc 0) limit (omega arith)))
+      tall o h (no g) = low (cell (o .column) (p .height)) (south-off (o .column) (o .left))
+          (here o _ (down (p .kind) (pos (o .column)) (pos (o .row)) (pos (p .height)) limit (omega (arith, o .upper))))
 
       sides : On p c → Dec (p .width ≤ 2 * limit) → erosion p m limit c ≡ 0
       sides o (yes h) = wide o h (decLe (suc (o .column)) limit)

@@ -3,11 +3,11 @@
 use mathlib.Core.Path.{_≡_, refl, sym, ap, _∙_, subst}
 use mathlib.Core.Logic.{_⊎_, inl, inr, _↔_}
 use mathlib.Core.Bool.{Bool, true, false, cond}
-use mathlib.Core.List.{List, [], _∷_, map, List·Memᴰ, List·Memᴰ·head, List·Memᴰ·tail, Memᴰ·cast}
+use mathlib.Core.List.{List, _∷_, map, List·Memᴰ, List·Memᴰ·head, List·Memᴰ·tail, Memᴰ·cast}
 use Prim.Native.Nat.{ℕ, zero, suc, _+_, _*_, _-_, _≤_, _<_, min}
 use native.Mathlib.Omega.{arith}
 use native.Mathlib.Decide.{decLe}
-use borrow.Author.Tests.{ltb-true, ltb-false, lt-ltb, le-ltb, le-leb, lt-leb, leb-true, leb-false}
+use borrow.Author.Tests.{ltb-true, ltb-false, lt-ltb, le-ltb, leb-true, leb-false}
 use lib.Dec.{leb, ltb}
 use lib.IntN.{ℤ, pos, negsuc}
 use Rattle.geometry.specs.declared.Kind.{Kind}
@@ -16,12 +16,11 @@ use Rattle.geometry.specs.declared.Head.{Head}
 use Rattle.geometry.specs.Lists.{Lowest, any}
 use Rattle.geometry.specs.Plane.{Cell, cell, gap, dist, Ball, neighbours}
 use Rattle.geometry.specs.Plate.{On, at, cells, framed, tabulated}
-use Rattle.geometry.specs.Plunges.{Within}
 use Rattle.theory.specs.Erosion.{erosion}
 use Rattle.theory.specs.Levels.{Shape, IsClearance, walls, corner, clearance, axis, Reached, reconstructed, MaximalBall}
 use Rattle.theory.proofs.Lists.{select-in, select-out, any-true, any-false, min-choice, fold-extreme, lowest-unique}
 use Rattle.theory.proofs.Distance.{gap-self, dist-self, dist-sym, dist-tri, dist-zero, near, step, window}
-use Rattle.theory.proofs.Balls.{col-near, row-near, within-sum, sum-within}
+use Rattle.theory.proofs.Balls.{within-sum, sum-within}
 use Rattle.theory.proofs.Plate.{Edge, on-or-off, cells-in, framed-in, at-tabulated-plane}
 use Rattle.theory.proofs.Erosion.{erosion-is, erosion-zero, erosion-top}
 
@@ -99,7 +98,8 @@ module _ (p : Head) (x y : ℕ) (left : x < p .width) (upper : y < p .height) wh
       go (pos a) (pos b) e g = plate a b e g (decLe (suc a) (p .width)) (decLe (suc b) (p .height))
 
 on-framed : (p : Head) (d : Cell) → On p d → List·Memᴰ d (framed p)
-on-framed p d o = Memᴰ·cast (o .is) (framed-in p (pos (o .column)) (pos (o .row)) (inr (o .column, omega (arith, o .left), refl)) (inr (o .row, omega (arith, o .upper), refl)))
+on-framed p d o = Memᴰ·cast (o .is) (framed-in p (pos (o .column)) (pos (o .row)) (inr (o .column, omega (arith, o .left), refl))
+    (inr (o .row, omega (arith, o .upper), refl)))
 
 -- ---- clearance
 
@@ -125,16 +125,19 @@ module _ (p : Head) (m : List ℕ) (t : ℕ) (level : 1 ≤ t) where
   unfolding clearance
   clearance-is c = go (leb t (at p m c)) refl
     where
-      in-shape : On p c → Lowest (λ o. at p m o < t) (dist (p .kind) c) (Rattle.geometry.specs.Lists.lowest (dist (p .kind) c corner) (map (dist (p .kind) c) (walls p m t)))
+      in-shape : On p c → Lowest (λ o. at p m o < t) (dist (p .kind) c)
+          (Rattle.geometry.specs.Lists.lowest (dist (p .kind) c corner) (map (dist (p .kind) c) (walls p m t)))
       in-shape o =
-          subst (λ d. Lowest (λ o. at p m o < t) (dist (p .kind) d) (Rattle.geometry.specs.Lists.lowest (dist (p .kind) d corner) (map (dist (p .kind) d) (walls p m t)))) (sym (o .is))
+          subst (λ d. Lowest (λ o. at p m o < t) (dist (p .kind) d)
+          (Rattle.geometry.specs.Lists.lowest (dist (p .kind) d corner) (map (dist (p .kind) d) (walls p m t)))) (sym (o .is))
           (nearest (o .column) (o .row) (o .left) (o .upper) _ (fold-extreme min-choice (dist (p .kind) (cell (o .column) (o .row))) corner (walls p m t)))
 
       on : t ≤ at p m c → On p c ⊎ ((n : List ℕ) → at p n c ≡ 0) → On p c
       on h (inl o) = o
       on h (inr z) = absurd (omega (arith, z m))
 
-      go : (b : Bool) → leb t (at p m c) ≡ b → IsClearance p m t c (cond b (Rattle.geometry.specs.Lists.lowest (dist (p .kind) c corner) (map (dist (p .kind) c) (walls p m t))) 0)
+      go : (b : Bool) → leb t (at p m c) ≡ b → IsClearance p m t c
+          (cond b (Rattle.geometry.specs.Lists.lowest (dist (p .kind) c corner) (map (dist (p .kind) c) (walls p m t))) 0)
       go true e = in-shape (on (leb-true _ _ e) (on-or-off p c))
       go false e = record { bound = λ d h. omega arith; met = (c, leb-false _ _ e, dist-self (p .kind) c) }
 
@@ -203,7 +206,8 @@ module _ (p : Head) (m : List ℕ) (t : ℕ) (level : 1 ≤ t) where
       larger : Cell → Bool
       larger n = ltb (clearance p m t c) (clearance p m t n)
 
-      go : (b : Bool) → any larger (neighbours (p .kind) c) ≡ b → ((cond b 0 (clearance p m t c) ≡ clearance p m t c) × None-larger c) ⊎ ((cond b 0 (clearance p m t c) ≡ 0) × Some-larger c)
+      go : (b : Bool) → any larger (neighbours (p .kind) c) ≡ b → ((cond b 0 (clearance p m t c) ≡ clearance p m t c) × None-larger c)
+          ⊎ ((cond b 0 (clearance p m t c) ≡ 0) × Some-larger c)
       go true e = let s = any-true larger (neighbours (p .kind) c) e in inr (refl, (s .0, s .1, ltb-true _ _ (s .2)))
       go false e = inl (refl, λ n w. ltb-false _ _ (any-false larger (neighbours (p .kind) c) e w))
 
@@ -237,7 +241,11 @@ module _ (p : Head) (m : List ℕ) (t : ℕ) (level : 1 ≤ t) where
   axis-iff-maximal c r = (to, from)
     where
       to : axis p m t c ≡ suc r → MaximalBall p m t c r
-      to e = record { contained = ball-in-shape c r .1 (omega (arith, a .0)); alone = λ d s inner w. only d s (ball-in-shape d s .0 inner) (within-sum (p .kind) c r d s w) (decLe s r) }
+      to e = record {
+        contained = ball-in-shape c r .1 (omega (arith, a .0));
+        alone =
+            λ d s inner w. only d s (ball-in-shape d s .0 inner) (within-sum (p .kind) c r d s w) (decLe s r);
+      }
         where
           a : (axis p m t c ≡ clearance p m t c) × None-larger c
           a = axis-above c (omega arith)
@@ -291,7 +299,12 @@ module _ (p : Head) (m : List ℕ) (c : Cell) where
       go true e = ((λ h. let s = any-true (λ o. ltb (dist (p .kind) o c) (at p m o)) (cells p) e in (s .0, ltb-true _ _ (s .2))), λ h. refl)
       go false e = (
         (λ h. absurd (omega arith)),
-        λ h. absurd (omega (arith, h .1, ltb-false (dist (p .kind) (h .0) c) (at p m (h .0)) (any-false (λ o. ltb (dist (p .kind) o c) (at p m o)) (cells p) e (cells-in p (on (h .0) (h .1) (on-or-off p (h .0))))))),
+        λ h. absurd (omega (
+          arith,
+          h .1,
+          ltb-false (dist (p .kind) (h .0) c) (at p m (h .0))
+              (any-false (λ o. ltb (dist (p .kind) o c) (at p m o)) (cells p) e (cells-in p (on (h .0) (h .1) (on-or-off p (h .0))))),
+        )),
       )
 
   one-or-zero : (reconstructed p m c ≡ 1) ⊎ (reconstructed p m c ≡ 0)
@@ -311,20 +324,24 @@ module _ (p : Head) (m : List ℕ) (c : Cell) where
 
 module _ (p : Head) (m : List ℕ) (t : ℕ) (level : 1 ≤ t) where
   -- from a cell whose ball reaches c, climb to larger clearances; the limit ends the climb
-  reach-axis : (limit : ℕ) → min (p .width) (p .height) ≤ 2 * limit → (n : ℕ) (c o : Cell) → limit ≤ clearance p m t o + n → dist (p .kind) o c < clearance p m t o → (a : Cell) × (dist (p .kind) a c < axis p m t a)
+  reach-axis : (limit : ℕ) → min (p .width) (p .height) ≤ 2 * limit → (n : ℕ) (c o : Cell) → limit ≤ clearance p m t o + n
+      → dist (p .kind) o c < clearance p m t o → (a : Cell) × (dist (p .kind) a c < axis p m t a)
   reach-axis limit s zero c o g h = go (axis-cases p m t level o)
     where
-      go : ((axis p m t o ≡ clearance p m t o) × None-larger p m t level o) ⊎ ((axis p m t o ≡ 0) × Some-larger p m t level o) → (a : Cell) × (dist (p .kind) a c < axis p m t a)
+      go : ((axis p m t o ≡ clearance p m t o) × None-larger p m t level o) ⊎ ((axis p m t o ≡ 0) × Some-larger p m t level o) → (a : Cell)
+          × (dist (p .kind) a c < axis p m t a)
       go (inl e) = (o, omega (arith, e .0))
       go (inr r) = absurd (omega (arith, r .1 .2, clearance-limit p m t level limit s (r .1 .0)))
   reach-axis limit s (suc n) c o g h = go (axis-cases p m t level o) (reach-axis limit s n c)
     where
       go : ((axis p m t o ≡ clearance p m t o) × None-larger p m t level o) ⊎ ((axis p m t o ≡ 0) × Some-larger p m t level o)
-          → ((o : Cell) → limit ≤ clearance p m t o + n → dist (p .kind) o c < clearance p m t o → (a : Cell) × (dist (p .kind) a c < axis p m t a)) → (a : Cell) × (dist (p .kind) a c < axis p m t a)
+          → ((o : Cell) → limit ≤ clearance p m t o + n → dist (p .kind) o c < clearance p m t o → (a : Cell) × (dist (p .kind) a c < axis p m t a))
+          → (a : Cell) × (dist (p .kind) a c < axis p m t a)
       go (inl e) ih = (o, omega (arith, e .0))
       go (inr r) ih =
           let n′ = r .1 .0 in
-          ih n′ (omega (arith, r .1 .2)) (omega (arith, r .1 .2, near (p .kind) o (List·Memᴰ·tail (r .1 .1)), dist-sym (p .kind) o n′, dist-tri (p .kind) n′ o c))
+          ih n′ (omega (arith, r .1 .2)) (omega
+          (arith, r .1 .2, near (p .kind) o (List·Memᴰ·tail (r .1 .1)), dist-sym (p .kind) o n′, dist-tri (p .kind) n′ o c))
 
   -- the axis of a level, reconstructed, is that level's shape
   pub axis-reconstructs : (c : Cell) → reconstructed p (tabulated p (axis p m t)) c ≡ cond (leb t (at p m c)) 1 0
@@ -332,7 +349,8 @@ module _ (p : Head) (m : List ℕ) (t : ℕ) (level : 1 ≤ t) where
     where
       inside : t ≤ at p m c → Reached p (tabulated p (axis p m t)) c
       inside h =
-          let r = reach-axis (p .width) (omega arith) (p .width) c c (omega arith) (omega (arith, dist-self (p .kind) c, clearance-inside p m t level c .1 h)) in
+          let r = reach-axis (p .width) (omega arith) (p .width) c c (omega arith)
+          (omega (arith, dist-self (p .kind) c, clearance-inside p m t level c .1 h)) in
           (r .0, omega (arith, r .1, at-axis p m t level (r .0)))
 
       outside : at p m c < t → Reached p (tabulated p (axis p m t)) c → ⊥

@@ -15,7 +15,7 @@ use Rattle.geometry.specs.declared.Plunge.{Plunge}
 use Rattle.geometry.specs.Lists.{gather}
 use Rattle.geometry.specs.Plane.{Cell, cell, dist}
 use Rattle.geometry.specs.Plate.{On, at}
-use Rattle.geometry.specs.Plunges.{centre, Covers, Within, Inside, OnPlate}
+use Rattle.geometry.specs.Plunges.{centre, Covers, BallWithin, Inside, OnPlate}
 use Rattle.theory.specs.Erosion.{erosion, highestNear, residue}
 use Rattle.theory.specs.Listing.{Fits, Maximal, listedAt, listing}
 use Rattle.theory.proofs.Lists.{gather-in, gather-out, gather-split, gather-nil}
@@ -23,7 +23,7 @@ use Rattle.theory.proofs.Distance.{dist-sym, dist-tri, near, step}
 use Rattle.theory.proofs.Balls.{within-sum}
 use Rattle.theory.proofs.Plate.{on-or-off}
 use Rattle.theory.proofs.Erosion.{le-highestNear, highestNear-met, erosion-is, erosion-off, erosion-top}
-use Rattle.theory.proofs.Residues.{residue-exact, residue-suc, residue-ended}
+use Rattle.theory.proofs.Residues.{residue-suc, residue-ended}
 
 -- a plunge fits exactly when its depth is from 1 to the erosion by its reach at its centre; that its ball is on the plate follows
 module _ (p : Head) (m : List ℕ) (q : Plunge) where
@@ -51,8 +51,8 @@ pub record Listed (p : Head) (limit : ℕ) (m : List ℕ) (q : Plunge) : Type 0 
   pub whole : q .depth ≡ erosion p m (q .reach .0) (centre q)
   pub over : highestNear (p .kind) (erosion p m (suc (q .reach .0))) (centre q) < erosion p m (q .reach .0) (centre q)
 
-abbrev pub plungeAt : Head → List ℕ → ℕ → ℕ → ℕ → Plunge
-plungeAt p m r x y = record { column = x; row = y; reach = record { 0 = r }; depth = erosion p m r (cell x y) }
+abbrev pub listedPlunge : Head → List ℕ → ℕ → ℕ → ℕ → Plunge
+listedPlunge p m r x y = record { column = x; row = y; reach = record { 0 = r }; depth = erosion p m r (cell x y) }
 
 one : {A : Type 0} (b : Bool) {r q : A} → List·Memᴰ q (cond b (r ∷ []) []) → (b ≡ true) × (q ≡ r)
 one true h = (refl, List·Memᴰ·eq-of-singleton h)
@@ -66,7 +66,7 @@ module _ (p : Head) (limit : ℕ) (m : List ℕ) where
       let b = gather-out (p .height) 0 (λ y. gather (p .width) 0 (λ x. listedAt p m (a .0) x y)) (a .3) in
       let d = gather-out (p .width) 0 (λ x. listedAt p m (a .0) x (b .0)) (b .3) in
       let e = one (ltb 0 (residue p m (suc (a .0)) (cell (d .0) (b .0)))) (d .3) in
-      subst (Listed p limit m) {x = plungeAt p m (a .0) (d .0) (b .0)} (sym (e .1))
+      subst (Listed p limit m) {x = listedPlunge p m (a .0) (d .0) (b .0)} (sym (e .1))
       (record {
         left = omega (arith, d .2);
         upper = omega (arith, b .2);
@@ -86,7 +86,8 @@ module _ (p : Head) (limit : ℕ) (m : List ℕ) where
       positive = omega (arith, l .over, residue-suc p m (q .reach .0) (centre q))
 
       here : List·Memᴰ q (listedAt p m (q .reach .0) (q .column) (q .row))
-      here = rw (lt-ltb _ _ positive) (List·Memᴰ·head (λ i. record { column = q .column; row = q .row; reach = record { 0 = q .reach .0 }; depth = l .whole i }))
+      here = rw (lt-ltb _ _ positive) (List·Memᴰ·head
+          (λ i. record { column = q .column; row = q .row; reach = record { 0 = q .reach .0 }; depth = l .whole i }))
 
   -- every listed plunge fits
   pub listed-fits : (q : Plunge) → List·Memᴰ q (listing p limit m) → Fits p m q
@@ -115,18 +116,28 @@ cell-same Square a b c d h = omega arith
 
 module _ (p : Head) (limit : ℕ) (m : List ℕ) (sides : min (p .width) (p .height) ≤ 2 * limit) where
   -- the key lemma: where the residue is 0, a ball of one reach more about the cell or a neighbour fits and contains the ball; climbing ends at the limit
-  pub climb : (n k : ℕ) (c : Cell) (v : ℕ) → k + n ≡ limit → 1 ≤ v → v ≤ erosion p m k c → (q : Plunge) × List·Memᴰ q (listing p limit m) × Within (p .kind) c k (centre q) (q .reach .0) × (v ≤ q .depth)
-  climb zero k c v e h l = absurd (let g : k ≡ limit = omega arith in omega (arith, rw g at l, erosion-top p m limit sides c))
-  climb (suc n) k c v e h l = go (on-or-off p c) (decLe (erosion p m k c) (highestNear (p .kind) (erosion p m (suc k)) c)) (λ d g. climb n (suc k) d v (omega arith) h g)
+  pub enlarge : (n k : ℕ) (c : Cell) (v : ℕ) → k + n ≡ limit → 1 ≤ v → v ≤ erosion p m k c → (q : Plunge) × List·Memᴰ q (listing p limit m)
+      × BallWithin (p .kind) c k (centre q) (q .reach .0) × (v ≤ q .depth)
+  enlarge zero k c v e h l = absurd (let g : k ≡ limit = omega arith in omega (arith, rw g at l, erosion-top p m limit sides c))
+  enlarge (suc n) k c v e h l = go (on-or-off p c) (decLe (erosion p m k c) (highestNear (p .kind) (erosion p m (suc k)) c))
+      (λ d g. enlarge n (suc k) d v (omega arith) h g)
     where
       go : On p c ⊎ ((o : List ℕ) → at p o c ≡ 0) → Dec (erosion p m k c ≤ highestNear (p .kind) (erosion p m (suc k)) c)
-          → ((d : Cell) → v ≤ erosion p m (suc k) d → (q : Plunge) × List·Memᴰ q (listing p limit m) × Within (p .kind) d (suc k) (centre q) (q .reach .0) × (v ≤ q .depth))
-          → (q : Plunge) × List·Memᴰ q (listing p limit m) × Within (p .kind) c k (centre q) (q .reach .0) × (v ≤ q .depth)
+          → ((d : Cell) → v ≤ erosion p m (suc k) d → (q : Plunge) × List·Memᴰ q (listing p limit m)
+          × BallWithin (p .kind) d (suc k) (centre q) (q .reach .0) × (v ≤ q .depth))
+          → (q : Plunge) × List·Memᴰ q (listing p limit m) × BallWithin (p .kind) c k (centre q) (q .reach .0) × (v ≤ q .depth)
       go (inr z) d r = absurd (omega (arith, erosion-off p m k c z))
       go (inl o) (no g) r =
           let u : highestNear (p .kind) (erosion p m (suc k)) c < erosion p m k c = omega arith in (
-            plungeAt p m k (o .column) (o .row),
-            listed-in p limit m (record { left = o .left; upper = o .upper; small = omega arith; whole = refl; over = subst (λ d. highestNear (p .kind) (erosion p m (suc k)) d < erosion p m k d) (o .is) u }),
+            listedPlunge p m k (o .column) (o .row),
+            listed-in p limit m (record {
+              left = o .left;
+              upper = o .upper;
+              small = omega arith;
+              whole = refl;
+              over =
+                  subst (λ d. highestNear (p .kind) (erosion p m (suc k)) d < erosion p m k d) (o .is) u;
+            }),
             (λ a b. subst (λ d. dist (p .kind) d a ≤ k) (o .is) b),
             subst (λ d. v ≤ erosion p m k d) (o .is) l,
           )
@@ -147,7 +158,7 @@ module _ (p : Head) (limit : ℕ) (m : List ℕ) (sides : min (p .width) (p .hei
   -- every plunge that fits lies inside a listed one
   pub fits-inside : (q : Plunge) → Fits p m q → (o : Plunge) × List·Memᴰ o (listing p limit m) × Inside (p .kind) q o
   fits-inside q f =
-      let t = climb (limit - q .reach .0) (q .reach .0) (centre q) (q .depth) (omega (arith, fits-small q f)) (f .some) (fits-erosion p m q f) in
+      let t = enlarge (limit - q .reach .0) (q .reach .0) (centre q) (q .depth) (omega (arith, fits-small q f)) (f .some) (fits-erosion p m q f) in
       (t .0, t .1, record { ball = t .2; depth = t .3 })
 
   -- a listed plunge lies inside no other that fits: one step towards the other centre is a neighbour that leaves no residue
@@ -170,12 +181,22 @@ module _ (p : Head) (limit : ℕ) (m : List ℕ) (sides : min (p .width) (p .hei
       go (no g) =
           let t = step (p .kind) (centre q) (centre o) (o .reach .0 - q .reach .0 - 1) (omega (arith, apart)) in
           let s = erosion-is p m (suc (q .reach .0)) (t .0) .met in
-          let d : dist (p .kind) (centre o) (s .0) ≤ o .reach .0 = omega (arith, t .2, s .1, dist-sym (p .kind) (t .0) (centre o), dist-tri (p .kind) (centre o) (t .0) (s .0)) in
-          absurd (omega (arith, l .over, l .whole, i .depth, f .deep (s .0) d, s .2, le-highestNear (p .kind) (erosion p m (suc (q .reach .0))) (centre q) (t .1)))
+          let d : dist (p .kind) (centre o) (s .0) ≤ o .reach .0 =
+          omega (arith, t .2, s .1, dist-sym (p .kind) (t .0) (centre o), dist-tri (p .kind) (centre o) (t .0) (s .0)) in
+          absurd (omega (
+            arith,
+            l .over,
+            l .whole,
+            i .depth,
+            f .deep (s .0) d,
+            s .2,
+            le-highestNear (p .kind) (erosion p m (suc (q .reach .0))) (centre q) (t .1),
+          ))
 
   -- a plunge is listed exactly when it fits and lies inside no other plunge that fits
   pub listed-iff-maximal : (q : Plunge) → List·Memᴰ q (listing p limit m) ↔ Maximal p m q
   listed-iff-maximal q = ((λ h. record { fits = listed-fits p limit m q h; alone = λ o f i. listed-alone q o h f i }), from)
     where
       from : Maximal p m q → List·Memᴰ q (listing p limit m)
-      from a = let t = fits-inside q (a .fits) in subst (λ o. List·Memᴰ o (listing p limit m)) (a .alone (t .0) (listed-fits p limit m (t .0) (t .1)) (t .2)) (t .1)
+      from a = let t = fits-inside q (a .fits) in
+          subst (λ o. List·Memᴰ o (listing p limit m)) (a .alone (t .0) (listed-fits p limit m (t .0) (t .1)) (t .2)) (t .1)

@@ -3,14 +3,14 @@ use mathlib.Core.Path.{_≡_, refl, sym, ap, _∙_, subst}
 use mathlib.Core.Logic.{_⊎_, inl, inr}
 use mathlib.Core.Bool.{Bool, true, false, cond}
 use mathlib.Core.List.{List, [], _∷_, _++_, map, List·Memᴰ, List·Memᴰ·head, List·Memᴰ·tail, List·Memᴰ·not-nil, List·Memᴰ·append-cases, Memᴰ·append-left, Memᴰ·append-right, Memᴰ·map, Memᴰ·of-map, Memᴰ·cast, append-assoc, append-nil}
-use Prim.Native.Nat.{ℕ, zero, suc, _+_, _*_, _-_, _≤_, _<_, min, max}
+use Prim.Native.Nat.{ℕ, zero, suc, _+_, _*_, _≤_, _<_, min, max}
 use native.Mathlib.Nat.{suc-mul, zero-mul, zero-add, add-suc, suc-add, add-zero}
 use native.Mathlib.Omega.{arith}
 use native.Mathlib.Decide.{decLe}
-use lib.IntN.{ℤ, pos}
+use lib.IntN.{ℤ}
 use lib.ListN.{length, getD, length-append, length-map, List·getD-append}
 use lib.Seq.{getD-append-add}
-use Rattle.geometry.specs.Lists.{gather, select, any, All, Extreme, Lowest, Highest, fold, lowest, highest, sum}
+use Rattle.geometry.specs.Lists.{gather, select, any, Extreme, Lowest, Highest, fold, highest}
 use Rattle.geometry.specs.Plane.{Cell, crossing}
 
 -- ---- gather
@@ -28,13 +28,16 @@ module _ {A : Type 0} where
   gather-out zero i f m = absurd (List·Memᴰ·not-nil m)
   gather-out {a} (suc n) i f m = go (List·Memᴰ·append-cases (f i) m) (gather-out n (suc i) f)
     where
-      go : List·Memᴰ a (f i) ⊎ List·Memᴰ a (gather n (suc i) f) → (List·Memᴰ a (gather n (suc i) f) → (j : ℕ) × (suc i ≤ j) × (j < suc i + n) × List·Memᴰ a (f j)) → (j : ℕ) × (i ≤ j) × (j < i + suc n) × List·Memᴰ a (f j)
+      go : List·Memᴰ a (f i) ⊎ List·Memᴰ a (gather n (suc i) f)
+          → (List·Memᴰ a (gather n (suc i) f) → (j : ℕ) × (suc i ≤ j) × (j < suc i + n) × List·Memᴰ a (f j)) → (j : ℕ) × (i ≤ j) × (j < i + suc n)
+          × List·Memᴰ a (f j)
       go (inl m′) r = (i, omega arith, omega arith, m′)
       go (inr m′) r = let t = r m′ in (t .0, omega arith, omega arith, t .3)
 
   pub gather-split : (n r i : ℕ) (f : ℕ → List A) → gather (n + r) i f ≡ gather n i f ++ gather r (i + n) f
   gather-split zero r i f = rw (zero-add r, add-zero i)
-  gather-split (suc n) r i f = rw (suc-add n r, add-suc i n, ← suc-add i n) (ap (λ l. f i ++ l) (gather-split n r (suc i) f) ∙ sym (append-assoc (f i) (gather n (suc i) f) (gather r (suc i + n) f)))
+  gather-split (suc n) r i f = rw (suc-add n r, add-suc i n, ← suc-add i n)
+      (ap (λ l. f i ++ l) (gather-split n r (suc i) f) ∙ sym (append-assoc (f i) (gather n (suc i) f) (gather r (suc i + n) f)))
 
   -- one list more at the end, as a loop adds it
   pub gather-more : (n i : ℕ) (f : ℕ → List A) → gather (n + 1) i f ≡ gather n i f ++ f (i + n)
@@ -79,7 +82,8 @@ module _ {A : Type 0} (f : A → Bool) where
   select-out [] m = absurd (List·Memᴰ·not-nil m)
   select-out (b ∷ l) {a} m = go (f b) refl (λ n. select-out l n) m
     where
-      go : (t : Bool) → f b ≡ t → (List·Memᴰ a (select f l) → List·Memᴰ a l × (f a ≡ true)) → List·Memᴰ a (cond t (b ∷ select f l) (select f l)) → List·Memᴰ a (b ∷ l) × (f a ≡ true)
+      go : (t : Bool) → f b ≡ t → (List·Memᴰ a (select f l) → List·Memᴰ a l × (f a ≡ true)) → List·Memᴰ a (cond t (b ∷ select f l) (select f l))
+          → List·Memᴰ a (b ∷ l) × (f a ≡ true)
       go true e r (List·Memᴰ·head h) = (List·Memᴰ·head h, ap f h ∙ e)
       go true e r (List·Memᴰ·tail n) = let s = r n in (List·Memᴰ·tail (s .0), s .1)
       go false e r n = let s = r n in (List·Memᴰ·tail (s .0), s .1)
@@ -88,7 +92,8 @@ module _ {A : Type 0} (f : A → Bool) where
   any-true [] e = let z : _≡_ {A = ℕ} 0 1 = cc in absurd (omega arith)
   any-true (b ∷ l) e = go (f b) refl (any-true l) e
     where
-      go : (t : Bool) → f b ≡ t → (any f l ≡ true → (a : A) × List·Memᴰ a l × (f a ≡ true)) → cond t true (any f l) ≡ true → (a : A) × List·Memᴰ a (b ∷ l) × (f a ≡ true)
+      go : (t : Bool) → f b ≡ t → (any f l ≡ true → (a : A) × List·Memᴰ a l × (f a ≡ true)) → cond t true (any f l) ≡ true → (a : A)
+          × List·Memᴰ a (b ∷ l) × (f a ≡ true)
       go true g r h = (b, List·Memᴰ·head refl, g)
       go false g r h = let s = r h in (s .0, List·Memᴰ·tail (s .1), s .2)
 
@@ -140,7 +145,9 @@ module _ {op : ℕ → ℕ → ℕ} {R : ℕ → ℕ → Type 0} (ch : Choice op
       later (List·Memᴰ·head e) = List·Memᴰ·head e
       later (List·Memᴰ·tail m) = List·Memᴰ·tail (List·Memᴰ·tail m)
 
-      go : (a : A) × List·Memᴰ a (c ∷ ds) × (f a ≡ fold op (f c) (map f ds)) → (op (f d) (fold op (f c) (map f ds)) ≡ f d) ⊎ (op (f d) (fold op (f c) (map f ds)) ≡ fold op (f c) (map f ds)) → (a : A) × List·Memᴰ a (c ∷ d ∷ ds) × (f a ≡ op (f d) (fold op (f c) (map f ds)))
+      go : (a : A) × List·Memᴰ a (c ∷ ds) × (f a ≡ fold op (f c) (map f ds)) → (op (f d) (fold op (f c) (map f ds)) ≡ f d)
+          ⊎ (op (f d) (fold op (f c) (map f ds)) ≡ fold op (f c) (map f ds)) → (a : A) × List·Memᴰ a (c ∷ d ∷ ds)
+          × (f a ≡ op (f d) (fold op (f c) (map f ds)))
       go t (inl e) = (d, List·Memᴰ·tail (List·Memᴰ·head refl), sym e)
       go t (inr e) = (t .0, later (t .1), t .2 ∙ sym e)
 
@@ -149,7 +156,8 @@ module _ {op : ℕ → ℕ → ℕ} {R : ℕ → ℕ → Type 0} (ch : Choice op
   fold-extreme c cs = record { bound = λ a m. fold-bound c cs m; met = let t = fold-met c cs in (t .0, t .1, t .2) }
 
 -- the extreme of the same things is the same
-pub extreme-among : {A : Type 0} {R : ℕ → ℕ → Type 0} {P Q : A → Type 0} {f : A → ℕ} {v : ℕ} → ((a : A) → P a → Q a) → ((a : A) → Q a → P a) → Extreme R P f v → Extreme R Q f v
+pub extreme-among : {A : Type 0} {R : ℕ → ℕ → Type 0} {P Q : A → Type 0} {f : A → ℕ} {v : ℕ} → ((a : A) → P a → Q a) → ((a : A) → Q a → P a)
+    → Extreme R P f v → Extreme R Q f v
 extreme-among to from e = record { bound = λ a q. e .bound a (from a q); met = (e .met .0, to (e .met .0) (e .met .1), e .met .2) }
 
 -- there is one lowest, and one highest
@@ -171,7 +179,8 @@ module _ {A : Type 0} (f : A → ℕ) where
   highest-met [] h = absurd (omega arith)
   highest-met (b ∷ l) h = go (decLe (f b) (highest 0 (map f l))) (highest-met l)
     where
-      go : Dec (f b ≤ highest 0 (map f l)) → (1 ≤ highest 0 (map f l) → (a : A) × List·Memᴰ a l × (f a ≡ highest 0 (map f l))) → (a : A) × List·Memᴰ a (b ∷ l) × (f a ≡ highest 0 (map f (b ∷ l)))
+      go : Dec (f b ≤ highest 0 (map f l)) → (1 ≤ highest 0 (map f l) → (a : A) × List·Memᴰ a l × (f a ≡ highest 0 (map f l))) → (a : A)
+          × List·Memᴰ a (b ∷ l) × (f a ≡ highest 0 (map f (b ∷ l)))
       go (no g) r = (b, List·Memᴰ·head refl, omega arith)
       go (yes g) r = let t = r (omega arith) in (t .0, List·Memᴰ·tail (t .1), omega (arith, t .2))
 
@@ -201,22 +210,28 @@ pub crossing-out : (cols rows : List ℤ) {c : Cell} → List·Memᴰ c (crossin
 crossing-out cols [] m = absurd (List·Memᴰ·not-nil m)
 crossing-out cols (z ∷ rows) {c} m = go (List·Memᴰ·append-cases (map (on-row z) cols) m) (λ n. crossing-out cols rows n)
   where
-    go : List·Memᴰ c (map (on-row z) cols) ⊎ List·Memᴰ c (crossing cols rows) → (List·Memᴰ c (crossing cols rows) → List·Memᴰ (c .col) cols × List·Memᴰ (c .row) rows) → List·Memᴰ (c .col) cols × List·Memᴰ (c .row) (z ∷ rows)
-    go (inl n) r = let t = Memᴰ·of-map (on-row z) cols n in (subst (λ x. List·Memᴰ x cols) (ap (λ d. d .col) (t .2)) (t .1), List·Memᴰ·head (sym (ap (λ d. d .row) (t .2))))
+    go : List·Memᴰ c (map (on-row z) cols) ⊎ List·Memᴰ c (crossing cols rows)
+        → (List·Memᴰ c (crossing cols rows) → List·Memᴰ (c .col) cols × List·Memᴰ (c .row) rows) → List·Memᴰ (c .col) cols
+        × List·Memᴰ (c .row) (z ∷ rows)
+    go (inl n) r = let t = Memᴰ·of-map (on-row z) cols n in
+        (subst (λ x. List·Memᴰ x cols) (ap (λ d. d .col) (t .2)) (t .1), List·Memᴰ·head (sym (ap (λ d. d .row) (t .2))))
     go (inr n) r = let t = r n in (t .0, List·Memᴰ·tail (t .1))
 
 pub length-crossing : (cols rows : List ℤ) → length (crossing cols rows) ≡ length rows * length cols
 length-crossing cols [] = sym (zero-mul (length cols))
-length-crossing cols (z ∷ rows) = length-append (map (on-row z) cols) (crossing cols rows) ∙ omega (arith, length-map {B = Cell} cols (on-row z), length-crossing cols rows, suc-mul (length rows) (length cols))
+length-crossing cols (z ∷ rows) = length-append (map (on-row z) cols) (crossing cols rows) ∙ omega
+    (arith, length-map {B = Cell} cols (on-row z), length-crossing cols rows, suc-mul (length rows) (length cols))
 
-pub getD-crossing : (cols rows : List ℤ) (d : Cell) (i j : ℕ) → i < length cols → j < length rows → getD (crossing cols rows) (j * length cols + i) d ≡ record { col = getD cols i (d .col); row = getD rows j (d .row) }
+pub getD-crossing : (cols rows : List ℤ) (d : Cell) (i j : ℕ) → i < length cols → j < length rows
+    → getD (crossing cols rows) (j * length cols + i) d ≡ record { col = getD cols i (d .col); row = getD rows j (d .row) }
 getD-crossing cols [] d i j h l = absurd (omega arith)
 getD-crossing cols (z ∷ rows) d i zero h l =
     ap (λ (k : ℕ). getD (map (on-row z) cols ++ crossing cols rows) k d) (ap (λ (k : ℕ). k + i) (zero-mul (length cols)) ∙ zero-add i)
     ∙ List·getD-append (map (on-row z) cols) (crossing cols rows) d i (omega (arith, length-map {B = Cell} cols (on-row z)))
     ∙ getD-map (on-row z) cols i (d .col) d h
 getD-crossing cols (z ∷ rows) d i (suc j) h l =
-    let e : suc j * length cols + i ≡ length (map (on-row z) cols) + (j * length cols + i) = omega (arith, length-map {B = Cell} cols (on-row z), suc-mul j (length cols)) in
+    let e : suc j * length cols + i ≡ length (map (on-row z) cols) + (j * length cols + i) =
+    omega (arith, length-map {B = Cell} cols (on-row z), suc-mul j (length cols)) in
     ap (λ (k : ℕ). getD (map (on-row z) cols ++ crossing cols rows) k d) e
     ∙ getD-append-add (map (on-row z) cols) (crossing cols rows) (j * length cols + i) d
     ∙ getD-crossing cols rows d i j h (omega arith)

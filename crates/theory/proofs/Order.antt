@@ -3,7 +3,7 @@ use mathlib.Core.Path.{_≡_, refl, ap}
 use mathlib.Core.Logic.{_⊎_, inl, inr}
 use mathlib.Core.Bool.{Bool, true, false, cond}
 use mathlib.Core.List.{List, [], _∷_, _++_, List·Memᴰ, List·Memᴰ·head, List·Memᴰ·tail, List·Memᴰ·not-nil, List·Memᴰ·append-cases, List·Memᴰ·eq-of-singleton}
-use Prim.Native.Nat.{ℕ, zero, suc, _+_, _≤_, _<_}
+use Prim.Native.Nat.{ℕ, zero, suc, _<_}
 use native.Mathlib.Omega.{arith}
 use lib.Dec.{ltb}
 use Rattle.geometry.specs.declared.Head.{Head}
@@ -22,7 +22,8 @@ join (x ∷ xs) b r s h = (λ o m. after o (List·Memᴰ·append-cases xs m), jo
     after o (inl m) = r .0 o m
     after o (inr m) = h x o (List·Memᴰ·head refl) m
 
-gather-rising : (n i : ℕ) (f : ℕ → List Plunge) → ((j : ℕ) → Rising (f j)) → ((j k : ℕ) → j < k → (q o : Plunge) → List·Memᴰ q (f j) → List·Memᴰ o (f k) → Before q o) → Rising (gather n i f)
+gather-rising : (n i : ℕ) (f : ℕ → List Plunge) → ((j : ℕ) → Rising (f j))
+    → ((j k : ℕ) → j < k → (q o : Plunge) → List·Memᴰ q (f j) → List·Memᴰ o (f k) → Before q o) → Rising (gather n i f)
 gather-rising zero i f r h = tt
 gather-rising (suc n) i f r h =
     join (f i) (gather n (suc i) f) (r i) (gather-rising n (suc i) f r h)
@@ -40,7 +41,8 @@ module _ (p : Head) (m : List ℕ) (r : ℕ) where
   place : (x y : ℕ) (q : Plunge) → List·Memᴰ q (listedAt p m r x y) → (q .column ≡ x) × (q .row ≡ y) × (q .reach .0 ≡ r)
   place x y q n = go (ltb 0 (residue p m (suc r) (cell x y))) (erosion p m r (cell x y)) n
     where
-      go : (b : Bool) (v : ℕ) → List·Memᴰ q (cond b (record { column = x; row = y; reach = record { 0 = r }; depth = v } ∷ []) []) → (q .column ≡ x) × (q .row ≡ y) × (q .reach .0 ≡ r)
+      go : (b : Bool) (v : ℕ) → List·Memᴰ q (cond b (record { column = x; row = y; reach = record { 0 = r }; depth = v } ∷ []) []) → (q .column ≡ x)
+          × (q .row ≡ y) × (q .reach .0 ≡ r)
       go true v n = let e = List·Memᴰ·eq-of-singleton n in (ap (λ o. o .column) e, ap (λ o. o .row) e, ap (λ o. o .reach .0) e)
       go false v n = absurd (List·Memᴰ·not-nil n)
 
@@ -50,7 +52,8 @@ module _ (p : Head) (m : List ℕ) (r : ℕ) where
   row-rising : (y : ℕ) → Rising (gather (p .width) 0 (λ x. listedAt p m r x y))
   row-rising y =
       gather-rising (p .width) 0 (λ x. listedAt p m r x y) (λ x. cell-rising x y)
-      (λ i j h q o a b. let s = place i y q a in let t = place j y o b in inr (omega (arith, s .2, t .2), inr (omega (arith, s .1, t .1), omega (arith, s .0, t .0))))
+      (λ i j h q o a b. let s = place i y q a in let t = place j y o b in
+      inr (omega (arith, s .2, t .2), inr (omega (arith, s .1, t .1), omega (arith, s .0, t .0))))
 
   abbrev pub of-reach : List Plunge
   of-reach = gather (p .height) 0 (λ y. gather (p .width) 0 (λ x. listedAt p m r x y))

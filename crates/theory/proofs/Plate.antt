@@ -1,8 +1,8 @@
 -- Laws of plates and maps: a cell is on the plate or every map is 0 there; what a map made from a function holds.
-use mathlib.Core.Path.{_≡_, refl, sym, ap, _∙_, subst, fun-ext}
+use mathlib.Core.Path.{_≡_, refl, sym, ap, _∙_, fun-ext}
 use mathlib.Core.Logic.{_⊎_, inl, inr}
-use mathlib.Core.List.{List, [], _∷_, map, List·Memᴰ, List·Memᴰ·head, List·Memᴰ·tail, Memᴰ·cast}
-use Prim.Native.Nat.{ℕ, zero, suc, _+_, _*_, _-_, _/_, _%_, _≤_, _<_}
+use mathlib.Core.List.{List, [], _∷_, List·Memᴰ, List·Memᴰ·head, List·Memᴰ·tail, Memᴰ·cast}
+use Prim.Native.Nat.{ℕ, suc, _+_, _*_, _/_, _%_, _≤_, _<_}
 use native.Mathlib.Omega.{arith}
 use native.Mathlib.Decide.{decLe}
 use native.Mathlib.Nat.{zero-add, div-add-mod', div-lt-iff-lt-mul, mod-lt, mul-zero, eq-zero-or-pos}
@@ -12,7 +12,6 @@ use lib.IntN.{ℤ, pos, negsuc}
 use lib.ListN.{length, getD, take, length-map}
 use lib.Seq.{ext-getD, length-take-le, getD-take}
 use Rattle.geometry.specs.declared.Head.{Head}
-use Rattle.geometry.specs.Lists.{gather}
 use Rattle.geometry.specs.Plane.{Cell, cell, crossing}
 use Rattle.geometry.specs.Plate.{On, area, below, cells, framed, at, tabulated}
 use Rattle.theory.proofs.Lists.{each-in, gather-out, length-each, getD-each, crossing-in, crossing-out, length-crossing, getD-crossing, getD-map, map-same}
@@ -69,7 +68,8 @@ module _ (p : Head) where
   -- the cells of the plate are those on it
   pub cells-in : {c : Cell} → On p c → List·Memᴰ c (cells p)
   unfolding cells
-  cells-in o = Memᴰ·cast (o .is) (crossing-in (below (p .width)) (below (p .height)) (below-in (p .width) (o .column) (o .left)) (below-in (p .height) (o .row) (o .upper)))
+  cells-in o = Memᴰ·cast (o .is) (crossing-in (below (p .width)) (below (p .height)) (below-in (p .width) (o .column) (o .left))
+      (below-in (p .height) (o .row) (o .upper)))
 
   pub cells-out : {c : Cell} → List·Memᴰ c (cells p) → On p c
   unfolding cells
@@ -104,7 +104,8 @@ module _ (p : Head) where
       getD-map f (cells p) (y * p .width + x) (cell 0 0) 0 (omega (arith, cells-length, digits-lt l h)) ∙ ap f (cells-at (cell 0 0) x y h l)
 
   pub at-tabulated : (f : Cell → ℕ) (c : Cell) → On p c → at p (tabulated p f) c ≡ f c
-  at-tabulated f c o = rw (o .is) (at-cell (tabulated p f) (o .column) (o .row) (o .left) (o .upper) ∙ getD-tabulated f (o .column) (o .row) (o .left) (o .upper))
+  at-tabulated f c o = rw (o .is) (at-cell (tabulated p f) (o .column) (o .row) (o .left) (o .upper) ∙ getD-tabulated f (o .column) (o .row)
+      (o .left) (o .upper))
 
   -- a function that is 0 off the plate is its map, at every cell of the plane
   pub at-tabulated-plane : (f : Cell → ℕ) → ((c : Cell) → ((m : List ℕ) → at p m c ≡ 0) → f c ≡ 0) → (c : Cell) → at p (tabulated p f) c ≡ f c
@@ -118,7 +119,8 @@ module _ (p : Head) where
   tabulated-same f g h = map-same f g (cells p) (λ c m. h c (cells-out m))
 
   -- two lists of the plate's length are the same map where they agree at each cell
-  pub map-ext : (m n : List ℕ) → length m ≡ area p → length n ≡ area p → ((x y : ℕ) → x < p .width → y < p .height → getD m (y * p .width + x) 0 ≡ getD n (y * p .width + x) 0) → m ≡ n
+  pub map-ext : (m n : List ℕ) → length m ≡ area p → length n ≡ area p
+      → ((x y : ℕ) → x < p .width → y < p .height → getD m (y * p .width + x) 0 ≡ getD n (y * p .width + x) 0) → m ≡ n
   map-ext m n h l e = ext-getD 0 m n (h ∙ sym l) (λ i g. entry i (omega arith) (eq-zero-or-pos (p .width)))
     where
       entry : (i : ℕ) → i < area p → (p .width ≡ 0) ⊎ (0 < p .width) → getD m i 0 ≡ getD n i 0

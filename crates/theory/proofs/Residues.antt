@@ -1,13 +1,13 @@
 -- Residues are never below 0; a cell's scores are at most its depth; past an empty erosion no residue is left.
-use mathlib.Core.Path.{_≡_, refl, sym, ap, _∙_}
-use mathlib.Core.List.{List, [], _∷_, _++_, List·Memᴰ, List·Memᴰ·head}
-use Prim.Native.Nat.{ℕ, zero, suc, _+_, _*_, _-_, _≤_, _<_, min, max}
+use mathlib.Core.Path.{_≡_, refl, ap, _∙_}
+use mathlib.Core.List.{List, [], _∷_, _++_, List·Memᴰ·head}
+use Prim.Native.Nat.{ℕ, zero, suc, _+_, _*_, _-_, _≤_, min, max}
 use native.Mathlib.Omega.{arith}
 use lib.ListN.{length, take}
 use Rattle.geometry.specs.declared.Head.{Head}
 use Rattle.geometry.specs.Lists.{gather, highest, sum}
 use Rattle.geometry.specs.Plane.{Cell}
-use Rattle.geometry.specs.Plate.{at, area, tabulated}
+use Rattle.geometry.specs.Plate.{at, area}
 use Rattle.theory.specs.Erosion.{erosion, highestNear, residue, residues, largestResidue, residueSum, volume}
 use Rattle.theory.proofs.Lists.{gather-more}
 use Rattle.theory.proofs.Plate.{tabulated-at}
@@ -51,13 +51,16 @@ module _ (p : Head) (m : List ℕ) where
     largestResidue-le limit = highest-sum limit 1
 
     -- residues that are all 0 add nothing
-    scores-none : (n k : ℕ) → ((j : ℕ) → k ≤ j → residue p m j c ≡ 0) → (sum (gather n k (λ j. residue p m j c ∷ [])) ≡ 0) × (highest 0 (gather n k (λ j. residue p m j c ∷ [])) ≡ 0)
+    scores-none : (n k : ℕ) → ((j : ℕ) → k ≤ j → residue p m j c ≡ 0) → (sum (gather n k (λ j. residue p m j c ∷ [])) ≡ 0)
+        × (highest 0 (gather n k (λ j. residue p m j c ∷ [])) ≡ 0)
     scores-none zero k z = (refl, refl)
-    scores-none (suc n) k z = let r = scores-none n (suc k) (λ j h. z j (omega arith)) in (omega (arith, z k (omega arith), r .0), omega (arith, z k (omega arith), r .1))
+    scores-none (suc n) k z = let r = scores-none n (suc k) (λ j h. z j (omega arith)) in
+        (omega (arith, z k (omega arith), r .0), omega (arith, z k (omega arith), r .1))
 
     -- the scores are the same for every limit at which the erosion has ended
     scores-stop : (n r k : ℕ) → ((j : ℕ) → k + n ≤ j → residue p m j c ≡ 0)
-        → (sum (gather (n + r) k (λ j. residue p m j c ∷ [])) ≡ sum (gather n k (λ j. residue p m j c ∷ []))) × (highest 0 (gather (n + r) k (λ j. residue p m j c ∷ [])) ≡ highest 0 (gather n k (λ j. residue p m j c ∷ [])))
+        → (sum (gather (n + r) k (λ j. residue p m j c ∷ [])) ≡ sum (gather n k (λ j. residue p m j c ∷ [])))
+        × (highest 0 (gather (n + r) k (λ j. residue p m j c ∷ [])) ≡ highest 0 (gather n k (λ j. residue p m j c ∷ [])))
     scores-stop zero r k z = let e : 0 + r ≡ r = omega arith in rw e (scores-none r k (λ j h. z j (omega arith)))
     scores-stop (suc n) r k z =
         let e : suc n + r ≡ suc (n + r) = omega arith in

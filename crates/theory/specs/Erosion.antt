@@ -1,7 +1,7 @@
 -- Erosions of a relief, their residues, scores, and the volume (document 01, "Rungs, residues and listing" and "Scores and volume"; source 002).
 -- Document 01's rung is the field's erosion. A limit stands for its largest rung number, 120, so that every law holds for any.
 use mathlib.Core.List.{List, [], _∷_, map}
-use Prim.Native.Nat.{ℕ, zero, suc, _+_, _-_}
+use Prim.Native.Nat.{ℕ, zero, suc, _-_}
 use Rattle.geometry.specs.declared.Kind.{Kind}
 use Rattle.geometry.specs.declared.Head.{Head}
 use Rattle.geometry.specs.Lists.{Lowest, gather, lowest, highest, sum}
@@ -15,10 +15,7 @@ IsErosion p m k c = Lowest (Ball (p .kind) c k) (at p m)
 unfoldable pub erosion : Head → List ℕ → ℕ → Cell → ℕ
 erosion p m k c = lowest (at p m c) (map (at p m) (ball (p .kind) c k))
 
--- the lowest of f "among the cell and its neighbours"; the highest
-abbrev pub lowestNear : Kind → (Cell → ℕ) → Cell → ℕ
-lowestNear kd f c = lowest (f c) (map f (neighbours kd c))
-
+-- the highest of f "among the cell and its neighbours"
 abbrev pub highestNear : Kind → (Cell → ℕ) → Cell → ℕ
 highestNear kd f c = highest (f c) (map f (neighbours kd c))
 

@@ -3,14 +3,14 @@
 use mathlib.Core.Path.{_≡_}
 use mathlib.Core.Bool.{cond}
 use mathlib.Core.List.{List, map}
-use Prim.Native.Nat.{ℕ, suc, _≤_, _<_}
+use Prim.Native.Nat.{ℕ, _≤_, _<_}
 use lib.Dec.{leb, ltb}
 use lib.IntN.{negsuc}
 use Rattle.geometry.specs.declared.Head.{Head}
 use Rattle.geometry.specs.Lists.{Lowest, any, select, lowest}
 use Rattle.geometry.specs.Plane.{Cell, Ball, dist, neighbours}
 use Rattle.geometry.specs.Plate.{at, cells, framed}
-use Rattle.geometry.specs.Plunges.{Within}
+use Rattle.geometry.specs.Plunges.{BallWithin}
 
 -- "The shape at level t (1 to 255) is all cells of depth t or more."
 abbrev pub Shape : Head → List ℕ → ℕ → Cell → Type 0
@@ -48,4 +48,4 @@ reconstructed p m c = cond (any (λ o. ltb (dist (p .kind) o c) (at p m o)) (cel
 pub record MaximalBall (p : Head) (m : List ℕ) (t : ℕ) (c : Cell) (r : ℕ) : Type 0 where
   pub contained : (o : Cell) → Ball (p .kind) c r o → Shape p m t o
   pub alone :
-      (d : Cell) (s : ℕ) → ((o : Cell) → Ball (p .kind) d s o → Shape p m t o) → Within (p .kind) c r d s → (d ≡ c) × (s ≡ r)
+      (d : Cell) (s : ℕ) → ((o : Cell) → Ball (p .kind) d s o → Shape p m t o) → BallWithin (p .kind) c r d s → (d ≡ c) × (s ≡ r)

@@ -17,7 +17,8 @@ use Rattle.geometry.specs.declared.Head.{Head}
 use Rattle.geometry.specs.Lists.{lowest, highest}
 use Rattle.geometry.specs.Plane.{Cell, cell, neighbours}
 use Rattle.geometry.specs.Plate.{at}
-use Rattle.window.specs.Windows.{before, windowOf, windowIn, windowMin, windowMax, around}
+use Rattle.window.specs.Windows.{windowOf, windowMin, windowMax, around}
+use Rattle.window.specs.Places.{before, windowIn}
 
 -- three numbers, or three rows, from what each of them is
 pub three : {A : Type 0} {a b c a′ b′ c′ : A} → a ≡ a′ → b ≡ b′ → c ≡ c′ → _≡_ {A = List A} (a ∷ b ∷ c ∷ []) (a′ ∷ b′ ∷ c′ ∷ [])

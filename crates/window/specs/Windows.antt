@@ -1,7 +1,6 @@
 -- A cell's window: "three rows of three depths, the cell in the middle", "off-plate cells 0".
-use mathlib.Core.List.{List, [], _∷_, map}
-use Prim.Native.Nat.{ℕ, _+_, _-_}
-use lib.IntN.{pos, predℤ}
+use mathlib.Core.List.{List, [], _∷_}
+use Prim.Native.Nat.{ℕ}
 use lib.ListN.{getD}
 use Rattle.geometry.specs.declared.Kind.{Kind}
 use Rattle.geometry.specs.declared.Kind.the-variants.{Diamond, Square}
@@ -34,15 +33,3 @@ windowMin kd win = lowest (inWindow win 1 1) (around kd win)
 
 abbrev pub windowMax : Kind → List (List ℕ) → ℕ
 windowMax kd win = highest (inWindow win 1 1) (around kd win)
-
--- the nine bytes about number n of a flat map with rows of w bytes; for a cell that does not touch the plate's edge they are its window
-abbrev pub windowIn : List ℕ → ℕ → ℕ → List (List ℕ)
-windowIn m w n =
-    (getD m (n - w - 1) 0 ∷ getD m (n - w) 0 ∷ getD m (n - w + 1) 0 ∷ [])
-    ∷ (getD m (n - 1) 0 ∷ getD m n 0 ∷ getD m (n + 1) 0 ∷ [])
-    ∷ (getD m (n + w - 1) 0 ∷ getD m (n + w) 0 ∷ getD m (n + w + 1) 0 ∷ [])
-    ∷ []
-
--- the cell at column i - 1 and row j - 1: a window's cells counted without negative numbers
-abbrev pub before : ℕ → ℕ → Cell
-before i j = record { col = predℤ (pos i); row = predℤ (pos j) }

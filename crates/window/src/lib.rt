@@ -7,7 +7,8 @@ ghost use Prim.Native.Nat.{_+_, _-_, _<_, _≤_, min, max};
 ghost use lib.ListN.{length, getD};
 ghost use Rattle.geometry.specs.Plane.{cell};
 ghost use Rattle.geometry.specs.Plate.{at};
-ghost use Rattle.window.specs.Windows.{before, windowOf, windowIn, windowMin, windowMax, inWindow};
+ghost use Rattle.window.specs.Windows.{windowOf, windowMin, windowMax, inWindow};
+ghost use Rattle.window.specs.Places.{before, windowIn};
 
 pub fn lower(a: u8, b: u8) -> u8
     ensures { λ r. ⌜ r ≡ min a b ⌝ }

@@ -2,7 +2,7 @@
 use Prim.Native.Nat.{_-_, _≤_}
 use native.Mathlib.Omega.{arith}
 use mathlib.Core.Path.{refl}
-use lib.ListN.{length, getD}
+use lib.ListN.{getD}
 use Rattle.buffers.specs.Fill.{Filled}
 use Rattle.buffers.proofs.Fill.{filled-none, filled-more, filled-end}
 use Rattle.buffers.proofs.copy_run.Statement.{statement}

@@ -2,7 +2,6 @@
 use Prim.Native.Nat.{_-_, _≤_}
 use native.Mathlib.Omega.{arith}
 use mathlib.Core.Path.{refl}
-use lib.ListN.{length}
 use Rattle.buffers.specs.Fill.{Filled}
 use Rattle.buffers.proofs.Fill.{filled-none, filled-more, filled-end}
 use Rattle.buffers.proofs.zero_run.Statement.{statement}
@@ -27,7 +26,8 @@ loop-less : tie.Need-loop-less Inv-loop μ-loop
 loop-less c = omega arith
 
 loop-again : tie.Need-loop-again Inv-loop μ-loop
-loop-again c = (omega arith, omega arith, filled-more _ _ _ _ _ _ (c .before .loop .inv .2) (omega arith) (omega arith) refl)
+loop-again c =
+    (omega arith, omega arith, filled-more _ _ _ _ _ _ (c .before .loop .inv .2) (omega arith) (omega arith) refl)
 
 same-length : tie.Need-same-length Inv-loop μ-loop
 same-length c = c .before .loop .inv .2 .same

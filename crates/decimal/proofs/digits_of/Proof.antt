@@ -21,34 +21,89 @@ is-far-requires : tie.Need-is-far-requires Inv-loop μ-loop
 is-far-requires c κs = c .loop .inv .small
 
 mul-number : tie.Need-mul-number Inv-loop μ-loop
-mul-number c = omega (arith, far-low (c .before .before .loop .rest) (c .before .before .loop .margin) (sym (c .before .is-far .ensures) ∙ c .if1 .taken), far-high (c .before .before .loop .rest) (c .before .before .loop .margin) (sym (c .before .is-far .ensures) ∙ c .if1 .taken), c .before .before .loop .inv .bounded, c .before .before .loop .inv .unit)
+mul-number c =
+    omega (
+      arith,
+      far-low (c .before .before .loop .rest) (c .before .before .loop .margin)
+          (sym (c .before .is-far .ensures) ∙ c .if1 .taken),
+      far-high (c .before .before .loop .rest) (c .before .before .loop .margin)
+          (sym (c .before .is-far .ensures) ∙ c .if1 .taken),
+      c .before .before .loop .inv .bounded,
+      c .before .before .loop .inv .unit,
+    )
 
 mul-number-2 : tie.Need-mul-number-2 Inv-loop μ-loop
 mul-number-2 c = omega (arith, c .before .before .loop .inv .small)
 
 add-number : tie.Need-add-number Inv-loop μ-loop
-add-number c = omega (arith, far-low (c .before .before .loop .rest) (c .before .before .loop .margin) (sym (c .before .is-far .ensures) ∙ c .if1 .taken), far-high (c .before .before .loop .rest) (c .before .before .loop .margin) (sym (c .before .is-far .ensures) ∙ c .if1 .taken), c .before .before .loop .inv .bounded, c .before .before .loop .inv .unit, c .before .before .loop .inv .small)
+add-number c =
+    omega (
+      arith,
+      far-low (c .before .before .loop .rest) (c .before .before .loop .margin)
+          (sym (c .before .is-far .ensures) ∙ c .if1 .taken),
+      far-high (c .before .before .loop .rest) (c .before .before .loop .margin)
+          (sym (c .before .is-far .ensures) ∙ c .if1 .taken),
+      c .before .before .loop .inv .bounded,
+      c .before .before .loop .inv .unit,
+      c .before .before .loop .inv .small,
+    )
 
 mul-rest : tie.Need-mul-rest Inv-loop μ-loop
 mul-rest c = omega (arith, c .before .before .loop .inv .small)
 
 mul-margin : tie.Need-mul-margin Inv-loop μ-loop
-mul-margin c = omega (arith, far-low (c .before .before .loop .rest) (c .before .before .loop .margin) (sym (c .before .is-far .ensures) ∙ c .if1 .taken), c .before .before .loop .inv .small)
+mul-margin c =
+    omega (
+      arith,
+      far-low (c .before .before .loop .rest) (c .before .before .loop .margin)
+          (sym (c .before .is-far .ensures) ∙ c .if1 .taken),
+      c .before .before .loop .inv .small,
+    )
 
 add-count : tie.Need-add-count Inv-loop μ-loop
-add-count c = omega (arith, far-low (c .before .before .loop .rest) (c .before .before .loop .margin) (sym (c .before .is-far .ensures) ∙ c .if1 .taken), c .before .before .loop .inv .small, c .before .before .loop .inv .counted)
+add-count c =
+    omega (
+      arith,
+      far-low (c .before .before .loop .rest) (c .before .before .loop .margin)
+          (sym (c .before .is-far .ensures) ∙ c .if1 .taken),
+      c .before .before .loop .inv .small,
+      c .before .before .loop .inv .counted,
+    )
 
 loop-less : tie.Need-loop-less Inv-loop μ-loop
-loop-less c = omega (arith, far-low (c .before .before .loop .rest) (c .before .before .loop .margin) (sym (c .before .is-far .ensures) ∙ c .if1 .taken), c .before .before .loop .inv .small, c .before .before .loop .inv .counted)
+loop-less c =
+    omega (
+      arith,
+      far-low (c .before .before .loop .rest) (c .before .before .loop .margin)
+          (sym (c .before .is-far .ensures) ∙ c .if1 .taken),
+      c .before .before .loop .inv .small,
+      c .before .before .loop .inv .counted,
+    )
 
 loop-again : tie.Need-loop-again Inv-loop μ-loop
-loop-again c = found-more (c .before .before .before .args .fraction) (c .before .before .before .args .half) (c .before .before .loop .rest) (c .before .before .loop .margin) (c .before .before .loop .number) (c .before .before .loop .count) (c .before .before .loop .inv) (far-low (c .before .before .loop .rest) (c .before .before .loop .margin) (sym (c .before .is-far .ensures) ∙ c .if1 .taken)) (far-high (c .before .before .loop .rest) (c .before .before .loop .margin) (sym (c .before .is-far .ensures) ∙ c .if1 .taken))
+loop-again c =
+    let at-start = c .before .before .before in
+    found-more (at-start .args .fraction) (at-start .args .half) (c .before .before .loop .rest)
+    (c .before .before .loop .margin) (c .before .before .loop .number) (c .before .before .loop .count)
+    (c .before .before .loop .inv)
+    (far-low (c .before .before .loop .rest) (c .before .before .loop .margin)
+    (sym (c .before .is-far .ensures) ∙ c .if1 .taken))
+    (far-high (c .before .before .loop .rest) (c .before .before .loop .margin)
+    (sym (c .before .is-far .ensures) ∙ c .if1 .taken))
 
 nearer-requires : tie.Need-nearer-requires Inv-loop μ-loop
-nearer-requires c κs = (c .before .before .loop .inv .small, omega (arith, c .before .before .loop .inv .bounded, c .before .before .loop .inv .narrow))
+nearer-requires c κs = (
+  c .before .before .loop .inv .small,
+  omega (arith, c .before .before .loop .inv .bounded, c .before .before .loop .inv .narrow),
+)
 
 returns : tie.Need-returns Inv-loop μ-loop
-returns c = found-end (c .before .before .before .before .args .fraction) (c .before .before .before .before .args .half) (c .before .before .before .loop .rest) (c .before .before .before .loop .margin) (c .before .before .before .loop .number) (c .before .before .before .loop .count) (c .before .before .before .loop .inv) (sym (c .before .before .is-far .ensures) ∙ c .before .if1 .left) (c .nearer .result) (c .nearer .ensures)
+returns c =
+    let at-loop = c .before .before .before in
+    let at-start = at-loop .before in
+    found-end (at-start .args .fraction) (at-start .args .half) (at-loop .loop .rest) (at-loop .loop .margin)
+    (at-loop .loop .number) (at-loop .loop .count) (at-loop .loop .inv)
+    (sym (c .before .before .is-far .ensures) ∙ c .before .if1 .left) (c .nearer .result) (c .nearer .ensures)
 
 pub digits-of-spec : {M : Type 1} → statement M
 digits-of-spec =

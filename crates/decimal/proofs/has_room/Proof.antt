@@ -11,7 +11,8 @@ returns : tie.Need-returns
 returns c = room-same (c .before .args .at) (c .before .args .bytes) (c .before .args .length) (c .if1 .taken)
 
 returns-2 : tie.Need-returns-2
-returns-2 c = sym (lt-leb (c .before .args .at + c .before .args .bytes) (c .before .args .length) (omega (arith, c .if1 .left)))
+returns-2 c =
+    sym (lt-leb (c .before .args .at + c .before .args .bytes) (c .before .args .length) (omega (arith, c .if1 .left)))
 
 pub has-room-spec : {M : Type 1} → statement M
 has-room-spec = tie.close (tie.spec returns returns-2)

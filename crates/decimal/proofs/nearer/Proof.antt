@@ -17,13 +17,17 @@ add-result : tie.Need-add-result
 add-result c = search needs
 
 returns-2 : tie.Need-returns-2
-returns-2 c = nearer-high (c .before .before .args .number) (c .before .before .args .rest) (c .before .before .pre .0) (c .if2 .taken)
+returns-2 c =
+    nearer-high (c .before .before .args .number) (c .before .before .args .rest) (c .before .before .pre .0)
+    (c .if2 .taken)
 
 add-result-2 : tie.Need-add-result-2
 add-result-2 c = search needs
 
 returns-3 : tie.Need-returns-3
-returns-3 c = nearer-tie (c .before .before .args .number) (c .before .before .args .rest) (c .before .before .pre .0) (c .before .if1 .left) (c .if2 .left)
+returns-3 c =
+    nearer-tie (c .before .before .args .number) (c .before .before .args .rest) (c .before .before .pre .0)
+    (c .before .if1 .left) (c .if2 .left)
 
 pub nearer-spec : {M : Type 1} → statement M
 nearer-spec =

@@ -9,7 +9,9 @@ unsigned-requires : tie.Need-unsigned-requires
 unsigned-requires c κs = search needs
 
 returns : tie.Need-returns
-returns c = no-text (c .before .before .before .args .text .now) _ (c .before .if1 .taken) (c .unsigned .ensures)
+returns c =
+    let at-start = c .before .before .before in
+    no-text (at-start .args .text .now) _ (c .before .if1 .taken) (c .unsigned .ensures)
 
 shared-slice-read-if2 : tie.Need-shared-slice-read-if2
 shared-slice-read-if2 c = search needs
@@ -30,10 +32,14 @@ unsigned-requires-3 : tie.Need-unsigned-requires-3
 unsigned-requires-3 c κs = search needs
 
 returns-2 : tie.Need-returns-2
-returns-2 c = with-minus (c .before .before .before .before .before .before .args .text .now) _ (c .before .before .if2 .taken) (c .unsigned2 .ensures)
+returns-2 c =
+    let at-start = c .before .before .before .before .before .before in
+    with-minus (at-start .args .text .now) _ (c .before .before .if2 .taken) (c .unsigned2 .ensures)
 
 returns-3 : tie.Need-returns-3
-returns-3 c = no-minus (c .before .before .before .before .before .args .text .now) _ (c .before .if2 .left) (c .unsigned3 .ensures)
+returns-3 c =
+    let at-start = c .before .before .before .before .before in
+    no-minus (at-start .args .text .now) _ (c .before .if2 .left) (c .unsigned3 .ensures)
 
 pub number-of-spec : {M : Type 1} → statement M
 number-of-spec =

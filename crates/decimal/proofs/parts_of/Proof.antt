@@ -31,16 +31,36 @@ rem-t7 : tie.Need-rem-t7
 rem-t7 c = rw (c .power2 .ensures) (pow-pos _)
 
 mul-t8 : tie.Need-mul-t8
-mul-t8 c = omega (arith, c .before .power .ensures, unit-most (c .before .before .args .field) (c .before .before .pre .0) (c .before .before .pre .1))
+mul-t8 c =
+    omega (
+      arith,
+      c .before .power .ensures,
+      unit-most (c .before .before .args .field) (c .before .before .pre .0) (c .before .before .pre .1),
+    )
 
 mul-t9 : tie.Need-mul-t9
-mul-t9 c = omega (arith, parts-fit (c .before .before .args .field) (c .before .before .pre .0) (c .before .before .pre .1) (2 ^ 52 + c .before .before .args .below) (c .before .power .result) (c .power2 .result) (c .before .power .ensures) (c .power2 .ensures))
+mul-t9 c =
+    omega (
+      arith,
+      parts-fit (c .before .before .args .field) (c .before .before .pre .0) (c .before .before .pre .1)
+          (2 ^ 52 + c .before .before .args .below) (c .before .power .result) (c .power2 .result)
+          (c .before .power .ensures) (c .power2 .ensures),
+    )
 
 half-gap-requires : tie.Need-half-gap-requires
-half-gap-requires c κs = omega (arith, c .before .power .ensures, unit-most (c .before .before .args .field) (c .before .before .pre .0) (c .before .before .pre .1))
+half-gap-requires c κs =
+    omega (
+      arith,
+      c .before .power .ensures,
+      unit-most (c .before .before .args .field) (c .before .before .pre .0) (c .before .before .pre .1),
+    )
 
 returns : tie.Need-returns
-returns c = parts-are (c .before .before .before .args .field) (c .before .before .before .pre .0) (c .before .before .before .pre .1) (c .before .before .before .args .below) (c .before .before .power .result) (c .before .power2 .result) (c .half-gap .result) (c .before .before .power .ensures) (c .before .power2 .ensures) (c .half-gap .ensures)
+returns c =
+    let at-start = c .before .before .before in
+    parts-are (at-start .args .field) (at-start .pre .0) (at-start .pre .1) (at-start .args .below)
+    (c .before .before .power .result) (c .before .power2 .result) (c .half-gap .result)
+    (c .before .before .power .ensures) (c .before .power2 .ensures) (c .half-gap .ensures)
 
 pub parts-of-spec : {M : Type 1} → statement M
 parts-of-spec =

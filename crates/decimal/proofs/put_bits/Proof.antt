@@ -18,7 +18,11 @@ same-length : tie.Need-same-length
 same-length c = search needs
 
 returns : tie.Need-returns
-returns c = bits-below (c .before .before .before .before .before .before .args .bits) _ _ (c .before .before .before .before .before .before .args .at) _ (c .before .before .before .before .if1 .taken) (c .before .before .put-hexadecimal .ensures)
+returns c =
+    let at-if1 = c .before .before .before .before in
+    let at-start = at-if1 .before .before in
+    bits-below (at-start .args .bits) _ _ (at-start .args .at) _ (at-if1 .if1 .taken)
+    (c .before .before .put-hexadecimal .ensures)
 
 put-hexadecimal-requires-2 : tie.Need-put-hexadecimal-requires-2
 put-hexadecimal-requires-2 c κs = search needs
@@ -27,7 +31,12 @@ same-length-2 : tie.Need-same-length-2
 same-length-2 c = search needs
 
 returns-2 : tie.Need-returns-2
-returns-2 c = bits-above (c .before .before .before .before .before .before .before .args .bits) _ _ (c .before .before .before .before .before .before .before .args .at) _ (c .before .before .before .before .before .if1 .left) (c .before .before .before .before .if2 .taken) (c .before .before .put-hexadecimal2 .ensures)
+returns-2 c =
+    let at-if2 = c .before .before .before .before in
+    let at-if1 = at-if2 .before in
+    let at-start = at-if1 .before .before in
+    bits-above (at-start .args .bits) _ _ (at-start .args .at) _ (at-if1 .if1 .left) (at-if2 .if2 .taken)
+    (c .before .before .put-hexadecimal2 .ensures)
 
 parts-of-requires : tie.Need-parts-of-requires
 parts-of-requires c κs = search needs
@@ -36,13 +45,27 @@ digits-of-requires : tie.Need-digits-of-requires
 digits-of-requires c κs = (rw (c .parts-of .ensures) (half-pos _ _), rw (c .parts-of .ensures) (fraction-below _ _))
 
 put-parts-requires : tie.Need-put-parts-requires
-put-parts-requires c κs = (rw (c .before .before .parts-of .ensures) (whole-below _ _ (c .before .before .before .if2 .left) (mod-lt (c .before .before .before .before .before .before .args .bits) (lit< tt))), c .before .digits-of .ensures .few)
+put-parts-requires c κs =
+    let at-if2 = c .before .before .before in
+    let at-start = at-if2 .before .before .before in (
+      rw (c .before .before .parts-of .ensures)
+          (whole-below _ _ (at-if2 .if2 .left) (mod-lt (at-start .args .bits) (lit< tt))),
+      c .before .digits-of .ensures .few,
+    )
 
 same-length-3 : tie.Need-same-length-3
 same-length-3 c = search needs
 
 returns-3 : tie.Need-returns-3
-returns-3 c = bits-within (c .before .before .before .before .before .before .before .before .before .args .bits) _ _ (c .before .before .before .before .before .before .before .before .before .args .at) _ (c .before .before .before .before .before .parts-of .result) (c .before .before .before .before .digits-of .result) (c .before .before .before .before .before .before .before .if1 .left) (c .before .before .before .before .before .before .if2 .left) (c .before .before .before .before .before .parts-of .ensures) (c .before .before .before .before .digits-of .ensures) (c .before .before .put-parts .ensures)
+returns-3 c =
+    let at-digits-of = c .before .before .before .before in
+    let at-parts-of = at-digits-of .before in
+    let at-if2 = at-parts-of .before in
+    let at-if1 = at-if2 .before in
+    let at-start = at-if1 .before .before in
+    bits-within (at-start .args .bits) _ _ (at-start .args .at) _ (at-parts-of .parts-of .result)
+    (at-digits-of .digits-of .result) (at-if1 .if1 .left) (at-if2 .if2 .left) (at-parts-of .parts-of .ensures)
+    (at-digits-of .digits-of .ensures) (c .before .before .put-parts .ensures)
 
 pub put-bits-spec : {M : Type 1} → statement M
 put-bits-spec =

@@ -14,7 +14,8 @@ use Prim.Native.Nat.{_<_, _-_, _+_}
 use Rattle.decimal.proofs.Texts.{digits-end}
 
 abbrev Inv-loop : tie.InvT-loop
-Inv-loop n base count out₀ at left₀ i₀ out left i = (i ≤ count) × (length out ≡ length out₀) × (spliced out at (digitText base i left) ≡ spliced out₀ at (digitText base count n))
+Inv-loop n base count out₀ at left₀ i₀ out left i = (i ≤ count) × (length out ≡ length out₀)
+    × (spliced out at (digitText base i left) ≡ spliced out₀ at (digitText base count n))
 
 abbrev μ-loop : tie.MeasureT-loop
 μ-loop n base count out₀ at left₀ i₀ out left i = i
@@ -29,7 +30,9 @@ rem-digit-byte : tie.Need-rem-digit-byte Inv-loop μ-loop
 rem-digit-byte c = omega arith
 
 digit-byte-requires : tie.Need-digit-byte-requires Inv-loop μ-loop
-digit-byte-requires c κs = let z : 0 < c .before .before .before .args .base = omega arith in omega (arith, mod-lt (c .before .loop .left) z)
+digit-byte-requires c κs =
+    let at-start = c .before .before .before in
+    let z : 0 < at-start .args .base = omega arith in omega (arith, mod-lt (c .before .loop .left) z)
 
 add-out : tie.Need-add-out Inv-loop μ-loop
 add-out c = omega arith
@@ -44,13 +47,25 @@ loop-less : tie.Need-loop-less Inv-loop μ-loop
 loop-less c = omega arith
 
 loop-again : tie.Need-loop-again Inv-loop μ-loop
-loop-again c = (omega arith, length-set (c .before .before .loop .out) (c .before .before .before .before .args .at + (c .before .before .loop .i - 1)) (c .digit-byte .result) ∙ c .before .before .loop .inv .1, digits-more (c .before .before .loop .out) (c .before .before .before .before .args .base) (c .before .before .before .before .args .at) (c .before .before .loop .i) (c .before .before .loop .left) (c .digit-byte .result) (c .before .loop-test .taken) (omega (arith, c .before .before .loop .inv .1)) (c .digit-byte .ensures) ∙ c .before .before .loop .inv .2)
+loop-again c =
+    let at-start = c .before .before .before .before in
+    let given = at-start .args in (
+      omega arith,
+      length-set (c .before .before .loop .out) (given .at + (c .before .before .loop .i - 1)) (c .digit-byte .result) ∙
+          c .before .before .loop .inv .1,
+      digits-more (c .before .before .loop .out) (given .base) (given .at) (c .before .before .loop .i)
+          (c .before .before .loop .left) (c .digit-byte .result) (c .before .loop-test .taken)
+          (omega (arith, c .before .before .loop .inv .1)) (c .digit-byte .ensures) ∙ c .before .before .loop .inv .2,
+    )
 
 same-length : tie.Need-same-length Inv-loop μ-loop
 same-length c = c .before .loop .inv .1
 
 returns : tie.Need-returns Inv-loop μ-loop
-returns c = digits-end (c .before .loop .out) _ (c .before .before .before .args .base) (c .before .before .before .args .at) (c .before .loop .i) (c .before .loop .left) (c .loop-test .left) (c .before .loop .inv .2)
+returns c =
+    let at-start = c .before .before .before in
+    digits-end (c .before .loop .out) _ (at-start .args .base) (at-start .args .at) (c .before .loop .i)
+    (c .before .loop .left) (c .loop-test .left) (c .before .loop .inv .2)
 
 pub put-digits-spec : {M : Type 1} → statement M
 put-digits-spec =

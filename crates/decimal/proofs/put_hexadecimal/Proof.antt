@@ -14,31 +14,96 @@ has-room-requires : tie.Need-has-room-requires
 has-room-requires c κs = search needs
 
 returns : tie.Need-returns
-returns c = not-fitting (hexadecimal (c .before .before .before .args .bits)) (c .before .before .before .args .out .now) (c .before .before .before .args .at) 18 (hexadecimal-length (c .before .before .before .args .bits)) (no-room (c .before .before .before .args .at) 18 (length (c .before .before .before .args .out .now)) (c .before .has-room .result) (c .before .has-room .ensures) (c .if1 .taken))
+returns c =
+    let at-start = c .before .before .before in
+    let given = at-start .args in
+    not-fitting (hexadecimal (given .bits)) (given .out .now) (given .at) 18 (hexadecimal-length (given .bits))
+    (no-room (given .at) 18 (length (given .out .now)) (c .before .has-room .result) (c .before .has-room .ensures)
+    (c .if1 .taken))
 
 slice-write-out : tie.Need-slice-write-out
-slice-write-out c = omega (arith, room (c .before .before .before .args .at) 18 (length (c .before .before .before .args .out .now)) (c .before .has-room .result) (c .before .has-room .ensures) (c .if1 .left))
+slice-write-out c =
+    let at-start = c .before .before .before in
+    omega (
+      arith,
+      room (at-start .args .at) 18 (length (at-start .args .out .now)) (c .before .has-room .result)
+          (c .before .has-room .ensures) (c .if1 .left),
+    )
 
 add-out : tie.Need-add-out
-add-out c = omega (arith, room (c .before .before .before .args .at) 18 (length (c .before .before .before .args .out .now)) (c .before .has-room .result) (c .before .has-room .ensures) (c .if1 .left))
+add-out c =
+    let at-start = c .before .before .before in
+    omega (
+      arith,
+      room (at-start .args .at) 18 (length (at-start .args .out .now)) (c .before .has-room .result)
+          (c .before .has-room .ensures) (c .if1 .left),
+    )
 
 slice-write-out-2 : tie.Need-slice-write-out-2
-slice-write-out-2 c = simp length-set (omega (arith, room (c .before .before .before .args .at) 18 (length (c .before .before .before .args .out .now)) (c .before .has-room .result) (c .before .has-room .ensures) (c .if1 .left)))
+slice-write-out-2 c =
+    let at-start = c .before .before .before in
+    simp length-set
+    (omega (
+      arith,
+      room (at-start .args .at) 18 (length (at-start .args .out .now)) (c .before .has-room .result)
+          (c .before .has-room .ensures) (c .if1 .left),
+    ))
 
 add-put-digits : tie.Need-add-put-digits
-add-put-digits c = omega (arith, room (c .before .before .before .before .args .at) 18 (length (c .before .before .before .before .args .out .now)) (c .before .before .has-room .result) (c .before .before .has-room .ensures) (c .before .if1 .left))
+add-put-digits c =
+    let at-start = c .before .before .before .before in
+    omega (
+      arith,
+      room (at-start .args .at) 18 (length (at-start .args .out .now)) (c .before .before .has-room .result)
+          (c .before .before .has-room .ensures) (c .before .if1 .left),
+    )
 
 put-digits-requires : tie.Need-put-digits-requires
-put-digits-requires c κs = (lit≤ tt, lit≤ tt, simp length-set (omega (arith, room (c .before .before .before .before .args .at) 18 (length (c .before .before .before .before .args .out .now)) (c .before .before .has-room .result) (c .before .before .has-room .ensures) (c .before .if1 .left))))
+put-digits-requires c κs =
+    let at-start = c .before .before .before .before in (
+      lit≤ tt,
+      lit≤ tt,
+      simp length-set
+          (omega (
+            arith,
+            room (at-start .args .at) 18 (length (at-start .args .out .now)) (c .before .before .has-room .result)
+                (c .before .before .has-room .ensures) (c .before .if1 .left),
+          )),
+    )
 
 add-result : tie.Need-add-result
-add-result c = omega (arith, room (c .before .before .before .before .before .before .before .args .at) 18 (length (c .before .before .before .before .before .before .before .args .out .now)) (c .before .before .before .before .before .has-room .result) (c .before .before .before .before .before .has-room .ensures) (c .before .before .before .before .if1 .left))
+add-result c =
+    let at-if1 = c .before .before .before .before in
+    let at-has-room = at-if1 .before in
+    let at-start = at-has-room .before .before in
+    omega (
+      arith,
+      room (at-start .args .at) 18 (length (at-start .args .out .now)) (at-has-room .has-room .result)
+          (at-has-room .has-room .ensures) (at-if1 .if1 .left),
+    )
 
 same-length : tie.Need-same-length
-same-length c = hexadecimal-same (c .before .before .before .before .before .before .before .args .out .now) _ (c .before .before .before .before .before .before .before .args .at) (c .before .before .before .before .before .before .before .args .bits) (room (c .before .before .before .before .before .before .before .args .at) 18 (length (c .before .before .before .before .before .before .before .args .out .now)) (c .before .before .before .before .before .has-room .result) (c .before .before .before .before .before .has-room .ensures) (c .before .before .before .before .if1 .left)) (c .before .before .put-digits .ensures)
+same-length c =
+    let at-if1 = c .before .before .before .before in
+    let at-has-room = at-if1 .before in
+    let at-start = at-has-room .before .before in
+    let given = at-start .args in
+    hexadecimal-same (given .out .now) _ (given .at) (given .bits)
+    (room (given .at) 18 (length (given .out .now)) (at-has-room .has-room .result) (at-has-room .has-room .ensures)
+    (at-if1 .if1 .left)) (c .before .before .put-digits .ensures)
 
 returns-2 : tie.Need-returns-2
-returns-2 c = done (hexadecimal (c .before .before .before .before .before .before .before .args .bits)) (c .before .before .before .before .before .before .before .args .out .now) _ (c .before .before .before .before .before .before .before .args .at) 18 (hexadecimal-length (c .before .before .before .before .before .before .before .args .bits)) (room (c .before .before .before .before .before .before .before .args .at) 18 (length (c .before .before .before .before .before .before .before .args .out .now)) (c .before .before .before .before .before .has-room .result) (c .before .before .before .before .before .has-room .ensures) (c .before .before .before .before .if1 .left)) (hexadecimal-done (c .before .before .before .before .before .before .before .args .out .now) _ (c .before .before .before .before .before .before .before .args .at) (c .before .before .before .before .before .before .before .args .bits) (room (c .before .before .before .before .before .before .before .args .at) 18 (length (c .before .before .before .before .before .before .before .args .out .now)) (c .before .before .before .before .before .has-room .result) (c .before .before .before .before .before .has-room .ensures) (c .before .before .before .before .if1 .left)) (c .before .before .put-digits .ensures))
+returns-2 c =
+    let at-if1 = c .before .before .before .before in
+    let at-has-room = at-if1 .before in
+    let at-start = at-has-room .before .before in
+    let given = at-start .args in
+    done (hexadecimal (given .bits)) (given .out .now) _ (given .at) 18 (hexadecimal-length (given .bits))
+    (room (given .at) 18 (length (given .out .now)) (at-has-room .has-room .result) (at-has-room .has-room .ensures)
+    (at-if1 .if1 .left))
+    (hexadecimal-done (given .out .now) _ (given .at) (given .bits)
+    (room (given .at) 18 (length (given .out .now)) (at-has-room .has-room .result) (at-has-room .has-room .ensures)
+    (at-if1 .if1 .left)) (c .before .before .put-digits .ensures))
 
 pub put-hexadecimal-spec : {M : Type 1} → statement M
 put-hexadecimal-spec =

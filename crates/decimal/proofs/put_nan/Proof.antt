@@ -13,31 +13,82 @@ has-room-requires : tie.Need-has-room-requires
 has-room-requires c κs = search needs
 
 returns : tie.Need-returns
-returns c = not-fitting notNumber (c .before .before .before .args .out .now) (c .before .before .before .args .at) 3 refl (no-room (c .before .before .before .args .at) 3 (length (c .before .before .before .args .out .now)) (c .before .has-room .result) (c .before .has-room .ensures) (c .if1 .taken))
+returns c =
+    let at-start = c .before .before .before in
+    let given = at-start .args in
+    not-fitting notNumber (given .out .now) (given .at) 3 refl
+    (no-room (given .at) 3 (length (given .out .now)) (c .before .has-room .result) (c .before .has-room .ensures)
+    (c .if1 .taken))
 
 slice-write-out : tie.Need-slice-write-out
-slice-write-out c = omega (arith, room (c .before .before .before .args .at) 3 (length (c .before .before .before .args .out .now)) (c .before .has-room .result) (c .before .has-room .ensures) (c .if1 .left))
+slice-write-out c =
+    let at-start = c .before .before .before in
+    omega (
+      arith,
+      room (at-start .args .at) 3 (length (at-start .args .out .now)) (c .before .has-room .result)
+          (c .before .has-room .ensures) (c .if1 .left),
+    )
 
 add-out : tie.Need-add-out
-add-out c = omega (arith, room (c .before .before .before .args .at) 3 (length (c .before .before .before .args .out .now)) (c .before .has-room .result) (c .before .has-room .ensures) (c .if1 .left))
+add-out c =
+    let at-start = c .before .before .before in
+    omega (
+      arith,
+      room (at-start .args .at) 3 (length (at-start .args .out .now)) (c .before .has-room .result)
+          (c .before .has-room .ensures) (c .if1 .left),
+    )
 
 slice-write-out-2 : tie.Need-slice-write-out-2
-slice-write-out-2 c = simp length-set (omega (arith, room (c .before .before .before .args .at) 3 (length (c .before .before .before .args .out .now)) (c .before .has-room .result) (c .before .has-room .ensures) (c .if1 .left)))
+slice-write-out-2 c =
+    let at-start = c .before .before .before in
+    simp length-set
+    (omega (
+      arith,
+      room (at-start .args .at) 3 (length (at-start .args .out .now)) (c .before .has-room .result)
+          (c .before .has-room .ensures) (c .if1 .left),
+    ))
 
 add-out-2 : tie.Need-add-out-2
-add-out-2 c = omega (arith, room (c .before .before .before .args .at) 3 (length (c .before .before .before .args .out .now)) (c .before .has-room .result) (c .before .has-room .ensures) (c .if1 .left))
+add-out-2 c =
+    let at-start = c .before .before .before in
+    omega (
+      arith,
+      room (at-start .args .at) 3 (length (at-start .args .out .now)) (c .before .has-room .result)
+          (c .before .has-room .ensures) (c .if1 .left),
+    )
 
 slice-write-out-3 : tie.Need-slice-write-out-3
-slice-write-out-3 c = simp length-set (omega (arith, room (c .before .before .before .args .at) 3 (length (c .before .before .before .args .out .now)) (c .before .has-room .result) (c .before .has-room .ensures) (c .if1 .left)))
+slice-write-out-3 c =
+    let at-start = c .before .before .before in
+    simp length-set
+    (omega (
+      arith,
+      room (at-start .args .at) 3 (length (at-start .args .out .now)) (c .before .has-room .result)
+          (c .before .has-room .ensures) (c .if1 .left),
+    ))
 
 add-result : tie.Need-add-result
-add-result c = omega (arith, room (c .before .before .before .args .at) 3 (length (c .before .before .before .args .out .now)) (c .before .has-room .result) (c .before .has-room .ensures) (c .if1 .left))
+add-result c =
+    let at-start = c .before .before .before in
+    omega (
+      arith,
+      room (at-start .args .at) 3 (length (at-start .args .out .now)) (c .before .has-room .result)
+          (c .before .has-room .ensures) (c .if1 .left),
+    )
 
 same-length : tie.Need-same-length
 same-length c = search needs
 
 returns-2 : tie.Need-returns-2
-returns-2 c = done notNumber (c .before .before .before .args .out .now) _ (c .before .before .before .args .at) 3 refl (room (c .before .before .before .args .at) 3 (length (c .before .before .before .args .out .now)) (c .before .has-room .result) (c .before .has-room .ensures) (c .if1 .left)) (nan-done (c .before .before .before .args .out .now) (c .before .before .before .args .at) (room (c .before .before .before .args .at) 3 (length (c .before .before .before .args .out .now)) (c .before .has-room .result) (c .before .has-room .ensures) (c .if1 .left)))
+returns-2 c =
+    let at-start = c .before .before .before in
+    let given = at-start .args in
+    done notNumber (given .out .now) _ (given .at) 3 refl
+    (room (given .at) 3 (length (given .out .now)) (c .before .has-room .result) (c .before .has-room .ensures)
+    (c .if1 .left))
+    (nan-done (given .out .now) (given .at)
+    (room (given .at) 3 (length (given .out .now)) (c .before .has-room .result) (c .before .has-room .ensures)
+    (c .if1 .left)))
 
 pub put-nan-spec : {M : Type 1} → statement M
 put-nan-spec =

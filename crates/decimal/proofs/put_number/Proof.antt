@@ -13,7 +13,10 @@ same-length : tie.Need-same-length
 same-length c = search needs
 
 returns : tie.Need-returns
-returns c = number-nan (c .before .before .before .before .before .before .args .x) _ _ (c .before .before .before .before .before .before .args .at) _ (c .before .before .before .before .if1 .taken) (c .before .before .put-nan .ensures)
+returns c =
+    let at-if1 = c .before .before .before .before in
+    let at-start = at-if1 .before .before in
+    number-nan (at-start .args .x) _ _ (at-start .args .at) _ (at-if1 .if1 .taken) (c .before .before .put-nan .ensures)
 
 float-to-bits-put-bits : tie.Need-float-to-bits-put-bits
 float-to-bits-put-bits c = rw (is-number (c .before .before .args .x) (c .if1 .left)) tt
@@ -25,7 +28,11 @@ same-length-2 : tie.Need-same-length-2
 same-length-2 c = search needs
 
 returns-2 : tie.Need-returns-2
-returns-2 c = number-bits (c .before .before .before .before .before .before .args .x) _ _ (c .before .before .before .before .before .before .args .at) _ (c .before .before .before .before .before .before .good .0 .1) (c .before .before .before .before .if1 .left) (c .before .before .put-bits .ensures)
+returns-2 c =
+    let at-if1 = c .before .before .before .before in
+    let at-start = at-if1 .before .before in
+    number-bits (at-start .args .x) _ _ (at-start .args .at) _ (at-start .good .0 .1) (at-if1 .if1 .left)
+    (c .before .before .put-bits .ensures)
 
 pub put-number-spec : {M : Type 1} → statement M
 put-number-spec =

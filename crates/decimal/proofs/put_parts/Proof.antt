@@ -19,49 +19,222 @@ tail-length-requires : tie.Need-tail-length-requires
 tail-length-requires c κs = search needs
 
 add-total : tie.Need-add-total
-add-total c = omega (arith, size-most (c .before .before .before .args .whole) (c .before .size-of .result) (c .before .size-of .ensures) (c .before .before .before .pre .0), tail-most (c .tail-length .result) (c .before .before .before .args .d .count) (c .tail-length .ensures) (c .before .before .before .pre .1))
+add-total c =
+    let at-start = c .before .before .before in
+    omega (
+      arith,
+      size-most (at-start .args .whole) (c .before .size-of .result) (c .before .size-of .ensures) (at-start .pre .0),
+      tail-most (c .tail-length .result) (at-start .args .d .count) (c .tail-length .ensures) (at-start .pre .1),
+    )
 
 has-room-requires : tie.Need-has-room-requires
 has-room-requires c κs = search needs
 
 returns : tie.Need-returns
-returns c = parts-none (c .before .before .before .before .before .args .whole) (c .before .before .before .before .before .args .d) (c .before .before .before .before .before .args .out .now) (c .before .before .before .before .before .args .at) (c .before .before .before .size-of .result) (c .before .before .tail-length .result) (c .before .before .before .size-of .ensures) (c .before .before .tail-length .ensures) (no-room (c .before .before .before .before .before .args .at) (c .before .before .before .size-of .result + c .before .before .tail-length .result) (length (c .before .before .before .before .before .args .out .now)) (c .before .has-room .result) (c .before .has-room .ensures) (c .if1 .taken))
+returns c =
+    let at-size-of = c .before .before .before in
+    let at-start = at-size-of .before .before in
+    let given = at-start .args in
+    parts-none (given .whole) (given .d) (given .out .now) (given .at) (at-size-of .size-of .result)
+    (c .before .before .tail-length .result) (at-size-of .size-of .ensures) (c .before .before .tail-length .ensures)
+    (no-room (given .at) (at-size-of .size-of .result + c .before .before .tail-length .result)
+    (length (given .out .now)) (c .before .has-room .result) (c .before .has-room .ensures) (c .if1 .taken))
 
 put-digits-requires : tie.Need-put-digits-requires
-put-digits-requires c κs = (lit≤ tt, lit≤ tt, omega (arith, room (c .before .before .before .before .before .before .args .at) (c .before .before .before .before .size-of .result + c .before .before .before .tail-length .result) (length (c .before .before .before .before .before .before .args .out .now)) (c .before .before .has-room .result) (c .before .before .has-room .ensures) (c .before .if1 .left)))
+put-digits-requires c κs =
+    let at-tail-length = c .before .before .before in
+    let at-size-of = at-tail-length .before in
+    let at-start = at-size-of .before .before in (
+      lit≤ tt,
+      lit≤ tt,
+      omega (
+        arith,
+        room (at-start .args .at) (at-size-of .size-of .result + at-tail-length .tail-length .result)
+            (length (at-start .args .out .now)) (c .before .before .has-room .result) (c .before .before .has-room .ensures)
+            (c .before .if1 .left),
+      ),
+    )
 
 add-result : tie.Need-add-result
-add-result c = omega (arith, room (c .before .before .before .before .before .before .before .before .before .before .args .at) (c .before .before .before .before .before .before .before .before .size-of .result + c .before .before .before .before .before .before .before .tail-length .result) (length (c .before .before .before .before .before .before .before .before .before .before .args .out .now)) (c .before .before .before .before .before .before .has-room .result) (c .before .before .before .before .before .before .has-room .ensures) (c .before .before .before .before .before .if1 .left))
+add-result c =
+    let at-if1 = c .before .before .before .before .before in
+    let at-has-room = at-if1 .before in
+    let at-tail-length = at-has-room .before in
+    let at-size-of = at-tail-length .before in
+    let at-start = at-size-of .before .before in
+    omega (
+      arith,
+      room (at-start .args .at) (at-size-of .size-of .result + at-tail-length .tail-length .result)
+          (length (at-start .args .out .now)) (at-has-room .has-room .result) (at-has-room .has-room .ensures)
+          (at-if1 .if1 .left),
+    )
 
 same-length : tie.Need-same-length
 same-length c = search needs
 
 returns-2 : tie.Need-returns-2
-returns-2 c = parts-whole (c .before .before .before .before .before .before .before .before .before .before .args .whole) (c .before .before .before .before .before .before .before .before .before .before .args .d) (c .before .before .before .before .before .before .before .before .before .before .args .out .now) (c .before .before .before .before .before .before .before .before .before .before .args .at) (c .before .before .before .before .before .before .before .before .size-of .result) (c .before .before .before .before .before .before .before .tail-length .result) (c .before .before .before .before .before .before .before .before .size-of .ensures) (c .before .before .before .before .before .before .before .tail-length .ensures) _ (c .if2 .taken) (room (c .before .before .before .before .before .before .before .before .before .before .args .at) (c .before .before .before .before .before .before .before .before .size-of .result + c .before .before .before .before .before .before .before .tail-length .result) (length (c .before .before .before .before .before .before .before .before .before .before .args .out .now)) (c .before .before .before .before .before .before .has-room .result) (c .before .before .before .before .before .before .has-room .ensures) (c .before .before .before .before .before .if1 .left)) (c .before .before .before .put-digits .ensures)
+returns-2 c =
+    let at-put-digits = c .before .before .before in
+    let at-if1 = at-put-digits .before .before in
+    let at-has-room = at-if1 .before in
+    let at-tail-length = at-has-room .before in
+    let at-size-of = at-tail-length .before in
+    let at-start = at-size-of .before .before in
+    let given = at-start .args in
+    parts-whole (given .whole) (given .d) (given .out .now) (given .at) (at-size-of .size-of .result)
+    (at-tail-length .tail-length .result) (at-size-of .size-of .ensures) (at-tail-length .tail-length .ensures) _
+    (c .if2 .taken)
+    (room (given .at) (at-size-of .size-of .result + at-tail-length .tail-length .result) (length (given .out .now))
+    (at-has-room .has-room .result) (at-has-room .has-room .ensures) (at-if1 .if1 .left))
+    (at-put-digits .put-digits .ensures)
 
 add-out : tie.Need-add-out
-add-out c = omega (arith, room (c .before .before .before .before .before .before .before .before .before .before .args .at) (c .before .before .before .before .before .before .before .before .size-of .result + c .before .before .before .before .before .before .before .tail-length .result) (length (c .before .before .before .before .before .before .before .before .before .before .args .out .now)) (c .before .before .before .before .before .before .has-room .result) (c .before .before .before .before .before .before .has-room .ensures) (c .before .before .before .before .before .if1 .left))
+add-out c =
+    let at-if1 = c .before .before .before .before .before in
+    let at-has-room = at-if1 .before in
+    let at-tail-length = at-has-room .before in
+    let at-size-of = at-tail-length .before in
+    let at-start = at-size-of .before .before in
+    omega (
+      arith,
+      room (at-start .args .at) (at-size-of .size-of .result + at-tail-length .tail-length .result)
+          (length (at-start .args .out .now)) (at-has-room .has-room .result) (at-has-room .has-room .ensures)
+          (at-if1 .if1 .left),
+    )
 
 slice-write-out : tie.Need-slice-write-out
-slice-write-out c = omega (arith, room (c .before .before .before .before .before .before .before .before .before .before .args .at) (c .before .before .before .before .before .before .before .before .size-of .result + c .before .before .before .before .before .before .before .tail-length .result) (length (c .before .before .before .before .before .before .before .before .before .before .args .out .now)) (c .before .before .before .before .before .before .has-room .result) (c .before .before .before .before .before .before .has-room .ensures) (c .before .before .before .before .before .if1 .left), middle-same (c .before .before .before .before .before .before .before .before .before .before .args .whole) (c .before .before .before .before .before .before .before .before .before .before .args .d) (c .before .before .before .before .before .before .before .before .before .before .args .out .now) (c .before .before .before .before .before .before .before .before .before .before .args .at) (c .before .before .before .before .before .before .before .before .size-of .result) (c .before .before .before .before .before .before .before .tail-length .result) (c .before .before .before .before .before .before .before .before .size-of .ensures) (c .before .before .before .before .before .before .before .tail-length .ensures) _ (room (c .before .before .before .before .before .before .before .before .before .before .args .at) (c .before .before .before .before .before .before .before .before .size-of .result + c .before .before .before .before .before .before .before .tail-length .result) (length (c .before .before .before .before .before .before .before .before .before .before .args .out .now)) (c .before .before .before .before .before .before .has-room .result) (c .before .before .before .before .before .before .has-room .ensures) (c .before .before .before .before .before .if1 .left)) (c .before .before .before .put-digits .ensures), tail-some (c .before .before .before .before .before .before .before .tail-length .result) (c .before .before .before .before .before .before .before .before .before .before .args .d .count) (c .before .before .before .before .before .before .before .tail-length .ensures) (c .if2 .left))
+slice-write-out c =
+    let at-put-digits = c .before .before .before in
+    let at-if1 = at-put-digits .before .before in
+    let at-has-room = at-if1 .before in
+    let at-tail-length = at-has-room .before in
+    let at-size-of = at-tail-length .before in
+    let at-start = at-size-of .before .before in
+    let given = at-start .args in
+    omega (
+      arith,
+      room (given .at) (at-size-of .size-of .result + at-tail-length .tail-length .result) (length (given .out .now))
+          (at-has-room .has-room .result) (at-has-room .has-room .ensures) (at-if1 .if1 .left),
+      middle-same (given .whole) (given .d) (given .out .now) (given .at) (at-size-of .size-of .result)
+          (at-tail-length .tail-length .result) (at-size-of .size-of .ensures) (at-tail-length .tail-length .ensures) _
+          (room (given .at) (at-size-of .size-of .result + at-tail-length .tail-length .result) (length (given .out .now))
+          (at-has-room .has-room .result) (at-has-room .has-room .ensures) (at-if1 .if1 .left))
+          (at-put-digits .put-digits .ensures),
+      tail-some (at-tail-length .tail-length .result) (given .d .count) (at-tail-length .tail-length .ensures)
+          (c .if2 .left),
+    )
 
 add-put-digits : tie.Need-add-put-digits
-add-put-digits c = omega (arith, room (c .before .before .before .before .before .before .before .before .before .before .before .args .at) (c .before .before .before .before .before .before .before .before .before .size-of .result + c .before .before .before .before .before .before .before .before .tail-length .result) (length (c .before .before .before .before .before .before .before .before .before .before .before .args .out .now)) (c .before .before .before .before .before .before .before .has-room .result) (c .before .before .before .before .before .before .before .has-room .ensures) (c .before .before .before .before .before .before .if1 .left))
+add-put-digits c =
+    let at-if1 = c .before .before .before .before .before .before in
+    let at-has-room = at-if1 .before in
+    let at-tail-length = at-has-room .before in
+    let at-size-of = at-tail-length .before in
+    let at-start = at-size-of .before .before in
+    omega (
+      arith,
+      room (at-start .args .at) (at-size-of .size-of .result + at-tail-length .tail-length .result)
+          (length (at-start .args .out .now)) (at-has-room .has-room .result) (at-has-room .has-room .ensures)
+          (at-if1 .if1 .left),
+    )
 
 add-put-digits-2 : tie.Need-add-put-digits-2
-add-put-digits-2 c = omega (arith, room (c .before .before .before .before .before .before .before .before .before .before .before .args .at) (c .before .before .before .before .before .before .before .before .before .size-of .result + c .before .before .before .before .before .before .before .before .tail-length .result) (length (c .before .before .before .before .before .before .before .before .before .before .before .args .out .now)) (c .before .before .before .before .before .before .before .has-room .result) (c .before .before .before .before .before .before .before .has-room .ensures) (c .before .before .before .before .before .before .if1 .left), tail-some (c .before .before .before .before .before .before .before .before .tail-length .result) (c .before .before .before .before .before .before .before .before .before .before .before .args .d .count) (c .before .before .before .before .before .before .before .before .tail-length .ensures) (c .before .if2 .left))
+add-put-digits-2 c =
+    let at-if1 = c .before .before .before .before .before .before in
+    let at-has-room = at-if1 .before in
+    let at-tail-length = at-has-room .before in
+    let at-size-of = at-tail-length .before in
+    let at-start = at-size-of .before .before in
+    let given = at-start .args in
+    omega (
+      arith,
+      room (given .at) (at-size-of .size-of .result + at-tail-length .tail-length .result) (length (given .out .now))
+          (at-has-room .has-room .result) (at-has-room .has-room .ensures) (at-if1 .if1 .left),
+      tail-some (at-tail-length .tail-length .result) (given .d .count) (at-tail-length .tail-length .ensures)
+          (c .before .if2 .left),
+    )
 
 put-digits-requires-2 : tie.Need-put-digits-requires-2
-put-digits-requires-2 c κs = (lit≤ tt, lit≤ tt, simp length-set (omega (arith, room (c .before .before .before .before .before .before .before .before .before .before .before .args .at) (c .before .before .before .before .before .before .before .before .before .size-of .result + c .before .before .before .before .before .before .before .before .tail-length .result) (length (c .before .before .before .before .before .before .before .before .before .before .before .args .out .now)) (c .before .before .before .before .before .before .before .has-room .result) (c .before .before .before .before .before .before .before .has-room .ensures) (c .before .before .before .before .before .before .if1 .left), middle-same (c .before .before .before .before .before .before .before .before .before .before .before .args .whole) (c .before .before .before .before .before .before .before .before .before .before .before .args .d) (c .before .before .before .before .before .before .before .before .before .before .before .args .out .now) (c .before .before .before .before .before .before .before .before .before .before .before .args .at) (c .before .before .before .before .before .before .before .before .before .size-of .result) (c .before .before .before .before .before .before .before .before .tail-length .result) (c .before .before .before .before .before .before .before .before .before .size-of .ensures) (c .before .before .before .before .before .before .before .before .tail-length .ensures) _ (room (c .before .before .before .before .before .before .before .before .before .before .before .args .at) (c .before .before .before .before .before .before .before .before .before .size-of .result + c .before .before .before .before .before .before .before .before .tail-length .result) (length (c .before .before .before .before .before .before .before .before .before .before .before .args .out .now)) (c .before .before .before .before .before .before .before .has-room .result) (c .before .before .before .before .before .before .before .has-room .ensures) (c .before .before .before .before .before .before .if1 .left)) (c .before .before .before .before .put-digits .ensures), tail-some (c .before .before .before .before .before .before .before .before .tail-length .result) (c .before .before .before .before .before .before .before .before .before .before .before .args .d .count) (c .before .before .before .before .before .before .before .before .tail-length .ensures) (c .before .if2 .left))))
+put-digits-requires-2 c κs =
+    let at-put-digits = c .before .before .before .before in
+    let at-if1 = at-put-digits .before .before in
+    let at-has-room = at-if1 .before in
+    let at-tail-length = at-has-room .before in
+    let at-size-of = at-tail-length .before in
+    let at-start = at-size-of .before .before in
+    let given = at-start .args in (
+      lit≤ tt,
+      lit≤ tt,
+      simp length-set
+          (omega (
+            arith,
+            room (given .at) (at-size-of .size-of .result + at-tail-length .tail-length .result) (length (given .out .now))
+                (at-has-room .has-room .result) (at-has-room .has-room .ensures) (at-if1 .if1 .left),
+            middle-same (given .whole) (given .d) (given .out .now) (given .at) (at-size-of .size-of .result)
+                (at-tail-length .tail-length .result) (at-size-of .size-of .ensures) (at-tail-length .tail-length .ensures) _
+                (room (given .at) (at-size-of .size-of .result + at-tail-length .tail-length .result) (length (given .out .now))
+                (at-has-room .has-room .result) (at-has-room .has-room .ensures) (at-if1 .if1 .left))
+                (at-put-digits .put-digits .ensures),
+            tail-some (at-tail-length .tail-length .result) (given .d .count) (at-tail-length .tail-length .ensures)
+                (c .before .if2 .left),
+          )),
+    )
 
 add-result-2 : tie.Need-add-result-2
-add-result-2 c = omega (arith, room (c .before .before .before .before .before .before .before .before .before .before .before .before .before .before .args .at) (c .before .before .before .before .before .before .before .before .before .before .before .before .size-of .result + c .before .before .before .before .before .before .before .before .before .before .before .tail-length .result) (length (c .before .before .before .before .before .before .before .before .before .before .before .before .before .before .args .out .now)) (c .before .before .before .before .before .before .before .before .before .before .has-room .result) (c .before .before .before .before .before .before .before .before .before .before .has-room .ensures) (c .before .before .before .before .before .before .before .before .before .if1 .left))
+add-result-2 c =
+    let at-if1 = c .before .before .before .before .before .before .before .before .before in
+    let at-has-room = at-if1 .before in
+    let at-tail-length = at-has-room .before in
+    let at-size-of = at-tail-length .before in
+    let at-start = at-size-of .before .before in
+    omega (
+      arith,
+      room (at-start .args .at) (at-size-of .size-of .result + at-tail-length .tail-length .result)
+          (length (at-start .args .out .now)) (at-has-room .has-room .result) (at-has-room .has-room .ensures)
+          (at-if1 .if1 .left),
+    )
 
 same-length-2 : tie.Need-same-length-2
-same-length-2 c = parts-same (c .before .before .before .before .before .before .before .before .before .before .before .before .before .before .args .whole) (c .before .before .before .before .before .before .before .before .before .before .before .before .before .before .args .d) (c .before .before .before .before .before .before .before .before .before .before .before .before .before .before .args .out .now) (c .before .before .before .before .before .before .before .before .before .before .before .before .before .before .args .at) (c .before .before .before .before .before .before .before .before .before .before .before .before .size-of .result) (c .before .before .before .before .before .before .before .before .before .before .before .tail-length .result) (c .before .before .before .before .before .before .before .before .before .before .before .before .size-of .ensures) (c .before .before .before .before .before .before .before .before .before .before .before .tail-length .ensures) _ (room (c .before .before .before .before .before .before .before .before .before .before .before .before .before .before .args .at) (c .before .before .before .before .before .before .before .before .before .before .before .before .size-of .result + c .before .before .before .before .before .before .before .before .before .before .before .tail-length .result) (length (c .before .before .before .before .before .before .before .before .before .before .before .before .before .before .args .out .now)) (c .before .before .before .before .before .before .before .before .before .before .has-room .result) (c .before .before .before .before .before .before .before .before .before .before .has-room .ensures) (c .before .before .before .before .before .before .before .before .before .if1 .left)) (parts-text (c .before .before .before .before .before .before .before .before .before .before .before .before .before .before .args .whole) (c .before .before .before .before .before .before .before .before .before .before .before .before .before .before .args .d) (c .before .before .before .before .before .before .before .before .before .before .before .before .before .before .args .out .now) (c .before .before .before .before .before .before .before .before .before .before .before .before .before .before .args .at) (c .before .before .before .before .before .before .before .before .before .before .before .before .size-of .result) (c .before .before .before .before .before .before .before .before .before .before .before .tail-length .result) (c .before .before .before .before .before .before .before .before .before .before .before .before .size-of .ensures) (c .before .before .before .before .before .before .before .before .before .before .before .tail-length .ensures) _ _ (c .before .before .before .before .if2 .left) (room (c .before .before .before .before .before .before .before .before .before .before .before .before .before .before .args .at) (c .before .before .before .before .before .before .before .before .before .before .before .before .size-of .result + c .before .before .before .before .before .before .before .before .before .before .before .tail-length .result) (length (c .before .before .before .before .before .before .before .before .before .before .before .before .before .before .args .out .now)) (c .before .before .before .before .before .before .before .before .before .before .has-room .result) (c .before .before .before .before .before .before .before .before .before .before .has-room .ensures) (c .before .before .before .before .before .before .before .before .before .if1 .left)) (c .before .before .before .before .before .before .before .put-digits .ensures) (c .before .before .put-digits2 .ensures))
+same-length-2 c =
+    let at-if2 = c .before .before .before .before in
+    let at-put-digits = at-if2 .before .before .before in
+    let at-if1 = at-put-digits .before .before in
+    let at-has-room = at-if1 .before in
+    let at-tail-length = at-has-room .before in
+    let at-size-of = at-tail-length .before in
+    let at-start = at-size-of .before .before in
+    let given = at-start .args in
+    parts-same (given .whole) (given .d) (given .out .now) (given .at) (at-size-of .size-of .result)
+    (at-tail-length .tail-length .result) (at-size-of .size-of .ensures) (at-tail-length .tail-length .ensures) _
+    (room (given .at) (at-size-of .size-of .result + at-tail-length .tail-length .result) (length (given .out .now))
+    (at-has-room .has-room .result) (at-has-room .has-room .ensures) (at-if1 .if1 .left))
+    (parts-text (given .whole) (given .d) (given .out .now) (given .at) (at-size-of .size-of .result)
+    (at-tail-length .tail-length .result) (at-size-of .size-of .ensures) (at-tail-length .tail-length .ensures) _ _
+    (at-if2 .if2 .left)
+    (room (given .at) (at-size-of .size-of .result + at-tail-length .tail-length .result) (length (given .out .now))
+    (at-has-room .has-room .result) (at-has-room .has-room .ensures) (at-if1 .if1 .left))
+    (at-put-digits .put-digits .ensures) (c .before .before .put-digits2 .ensures))
 
 returns-3 : tie.Need-returns-3
-returns-3 c = parts-both (c .before .before .before .before .before .before .before .before .before .before .before .before .before .before .args .whole) (c .before .before .before .before .before .before .before .before .before .before .before .before .before .before .args .d) (c .before .before .before .before .before .before .before .before .before .before .before .before .before .before .args .out .now) (c .before .before .before .before .before .before .before .before .before .before .before .before .before .before .args .at) (c .before .before .before .before .before .before .before .before .before .before .before .before .size-of .result) (c .before .before .before .before .before .before .before .before .before .before .before .tail-length .result) (c .before .before .before .before .before .before .before .before .before .before .before .before .size-of .ensures) (c .before .before .before .before .before .before .before .before .before .before .before .tail-length .ensures) _ (room (c .before .before .before .before .before .before .before .before .before .before .before .before .before .before .args .at) (c .before .before .before .before .before .before .before .before .before .before .before .before .size-of .result + c .before .before .before .before .before .before .before .before .before .before .before .tail-length .result) (length (c .before .before .before .before .before .before .before .before .before .before .before .before .before .before .args .out .now)) (c .before .before .before .before .before .before .before .before .before .before .has-room .result) (c .before .before .before .before .before .before .before .before .before .before .has-room .ensures) (c .before .before .before .before .before .before .before .before .before .if1 .left)) (parts-text (c .before .before .before .before .before .before .before .before .before .before .before .before .before .before .args .whole) (c .before .before .before .before .before .before .before .before .before .before .before .before .before .before .args .d) (c .before .before .before .before .before .before .before .before .before .before .before .before .before .before .args .out .now) (c .before .before .before .before .before .before .before .before .before .before .before .before .before .before .args .at) (c .before .before .before .before .before .before .before .before .before .before .before .before .size-of .result) (c .before .before .before .before .before .before .before .before .before .before .before .tail-length .result) (c .before .before .before .before .before .before .before .before .before .before .before .before .size-of .ensures) (c .before .before .before .before .before .before .before .before .before .before .before .tail-length .ensures) _ _ (c .before .before .before .before .if2 .left) (room (c .before .before .before .before .before .before .before .before .before .before .before .before .before .before .args .at) (c .before .before .before .before .before .before .before .before .before .before .before .before .size-of .result + c .before .before .before .before .before .before .before .before .before .before .before .tail-length .result) (length (c .before .before .before .before .before .before .before .before .before .before .before .before .before .before .args .out .now)) (c .before .before .before .before .before .before .before .before .before .before .has-room .result) (c .before .before .before .before .before .before .before .before .before .before .has-room .ensures) (c .before .before .before .before .before .before .before .before .before .if1 .left)) (c .before .before .before .before .before .before .before .put-digits .ensures) (c .before .before .put-digits2 .ensures))
+returns-3 c =
+    let at-if2 = c .before .before .before .before in
+    let at-put-digits = at-if2 .before .before .before in
+    let at-if1 = at-put-digits .before .before in
+    let at-has-room = at-if1 .before in
+    let at-tail-length = at-has-room .before in
+    let at-size-of = at-tail-length .before in
+    let at-start = at-size-of .before .before in
+    let given = at-start .args in
+    parts-both (given .whole) (given .d) (given .out .now) (given .at) (at-size-of .size-of .result)
+    (at-tail-length .tail-length .result) (at-size-of .size-of .ensures) (at-tail-length .tail-length .ensures) _
+    (room (given .at) (at-size-of .size-of .result + at-tail-length .tail-length .result) (length (given .out .now))
+    (at-has-room .has-room .result) (at-has-room .has-room .ensures) (at-if1 .if1 .left))
+    (parts-text (given .whole) (given .d) (given .out .now) (given .at) (at-size-of .size-of .result)
+    (at-tail-length .tail-length .result) (at-size-of .size-of .ensures) (at-tail-length .tail-length .ensures) _ _
+    (at-if2 .if2 .left)
+    (room (given .at) (at-size-of .size-of .result + at-tail-length .tail-length .result) (length (given .out .now))
+    (at-has-room .has-room .result) (at-has-room .has-room .ensures) (at-if1 .if1 .left))
+    (at-put-digits .put-digits .ensures) (c .before .before .put-digits2 .ensures))
 
 pub put-parts-spec : {M : Type 1} → statement M
 put-parts-spec =

@@ -12,10 +12,18 @@ nearest-u64-to-f64-requires-2 : tie.Need-nearest-u64-to-f64-requires-2
 nearest-u64-to-f64-requires-2 c κs = search needs
 
 returns : tie.Need-returns
-returns c = negative-of (c .before .before .before .args .negative) (c .before .before .before .args .digits) (c .before .before .before .args .unit) _ _ (c .if1 .taken) (c .before .before .before .pre) (c .before .before .nearest-u64-to-f64 .ensures) (c .before .nearest-u64-to-f642 .ensures)
+returns c =
+    let at-start = c .before .before .before in
+    let given = at-start .args in
+    negative-of (given .negative) (given .digits) (given .unit) _ _ (c .if1 .taken) (at-start .pre)
+    (c .before .before .nearest-u64-to-f64 .ensures) (c .before .nearest-u64-to-f642 .ensures)
 
 returns-2 : tie.Need-returns-2
-returns-2 c = quotient-of (c .before .before .before .args .negative) (c .before .before .before .args .digits) (c .before .before .before .args .unit) _ _ (c .if1 .left) (c .before .before .before .pre) (c .before .before .nearest-u64-to-f64 .ensures) (c .before .nearest-u64-to-f642 .ensures)
+returns-2 c =
+    let at-start = c .before .before .before in
+    let given = at-start .args in
+    quotient-of (given .negative) (given .digits) (given .unit) _ _ (c .if1 .left) (at-start .pre)
+    (c .before .before .nearest-u64-to-f64 .ensures) (c .before .nearest-u64-to-f642 .ensures)
 
 pub quotient-spec : {M : Type 1} → statement M
 quotient-spec =

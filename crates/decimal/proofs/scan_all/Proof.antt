@@ -31,10 +31,20 @@ loop-less : tie.Need-loop-less Inv-loop μ-loop
 loop-less c = omega arith
 
 loop-again : tie.Need-loop-again Inv-loop μ-loop
-loop-again c = (omega arith, rw (c .step .ensures) (bounded-step (c .before .before .before .loop .s) _ (c .before .before .before .loop .inv .1)), scanned-more (c .before .before .before .before .before .args .text .now) (c .before .before .before .loop .i) (c .before .before .before .loop .s) (c .step .result) (c .before .before .loop-test .taken) (c .step .ensures) ∙ c .before .before .before .loop .inv .2)
+loop-again c =
+    let at-loop = c .before .before .before in
+    let at-start = at-loop .before .before in (
+      omega arith,
+      rw (c .step .ensures) (bounded-step (at-loop .loop .s) _ (at-loop .loop .inv .1)),
+      scanned-more (at-start .args .text .now) (at-loop .loop .i) (at-loop .loop .s) (c .step .result)
+          (c .before .before .loop-test .taken) (c .step .ensures) ∙ at-loop .loop .inv .2,
+    )
 
 returns : tie.Need-returns Inv-loop μ-loop
-returns c = scanned-end (c .before .before .before .args .text .now) (c .before .loop .i) (c .before .loop .s) (c .loop-test .left) ∙ c .before .loop .inv .2
+returns c =
+    let at-start = c .before .before .before in
+    scanned-end (at-start .args .text .now) (c .before .loop .i) (c .before .loop .s) (c .loop-test .left) ∙
+    c .before .loop .inv .2
 
 pub scan-all-spec : {M : Type 1} → statement M
 scan-all-spec =

@@ -24,10 +24,14 @@ loop-less : tie.Need-loop-less Inv-loop μ-loop
 loop-less c = omega (arith, c .before .loop .inv .counted, c .before .loop .inv .some)
 
 loop-again : tie.Need-loop-again Inv-loop μ-loop
-loop-again c = counted-more (c .before .before .args .n) (c .before .loop .count) (c .before .loop .unit) (c .before .loop .inv) (c .loop-test .taken)
+loop-again c =
+    counted-more (c .before .before .args .n) (c .before .loop .count) (c .before .loop .unit) (c .before .loop .inv)
+    (c .loop-test .taken)
 
 returns : tie.Need-returns Inv-loop μ-loop
-returns c = counted-end (c .before .before .args .n) (c .before .loop .count) (c .before .loop .unit) (c .before .loop .inv) (c .loop-test .left)
+returns c =
+    counted-end (c .before .before .args .n) (c .before .loop .count) (c .before .loop .unit) (c .before .loop .inv)
+    (c .loop-test .left)
 
 pub size-of-spec : {M : Type 1} → statement M
 size-of-spec =

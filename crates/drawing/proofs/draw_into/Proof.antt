@@ -21,13 +21,26 @@ find-ranges-requires : tie.Need-find-ranges-requires
 find-ranges-requires c κs = search needs
 
 draw-levels-requires : tie.Need-draw-levels-requires
-draw-levels-requires c κs = let s = c .before .before .before .before .before .before .before .before .before .before .before .before .before .before in (s .pre .0, s .pre .1, omega (arith, s .pre .2, c .before .before .before .before .before .before .before .before .zero-run .ensures .same), c .before .before .before .find-ranges .ensures, zeroed _ _ _ (c .before .before .before .before .before .before .before .before .zero-run .ensures))
+draw-levels-requires c κs =
+    let at-find-ranges = c .before .before .before in
+    let at-zero-run = at-find-ranges .before .before .before .before .before in
+    let s = at-zero-run .before .before .before .before .before .before in (
+      s .pre .0,
+      s .pre .1,
+      omega (arith, s .pre .2, at-zero-run .zero-run .ensures .same),
+      at-find-ranges .find-ranges .ensures,
+      zeroed _ _ _ (at-zero-run .zero-run .ensures),
+    )
 
 same-length : tie.Need-same-length
 same-length c = search needs
 
 returns : tie.Need-returns
-returns c = let s = c .before .before .before .before .before .before .before .before .before .before .before .before .before .before .before .before .before in drawn-mapped (s .args .head) (s .args .count) _ (s .pre .0) (s .pre .1) _ _ _ (c .before .before .before .before .before .before .before .before .before .before .before .zero-run .ensures) (c .before .before .draw-levels .ensures)
+returns c =
+    let at-zero-run = c .before .before .before .before .before .before .before .before .before .before .before in
+    let s = at-zero-run .before .before .before .before .before .before in
+    drawn-mapped (s .args .head) (s .args .count) _ (s .pre .0) (s .pre .1) _ _ _ (at-zero-run .zero-run .ensures)
+    (c .before .before .draw-levels .ensures)
 
 pub draw-into-spec : {M : Type 1} → statement M
 draw-into-spec =

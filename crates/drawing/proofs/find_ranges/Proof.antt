@@ -20,46 +20,117 @@ reach-at-requires : tie.Need-reach-at-requires Inv-loop μ-loop
 reach-at-requires c κs = let s = c .before .before .before in (s .pre .0, s .pre .1, c .loop-test .taken)
 
 mul-start-of : tie.Need-mul-start-of Inv-loop μ-loop
-mul-start-of c = let s = c .before .before .before .before in omega (arith, c .reach-at .ensures, reach-small (s .args .head) (s .args .count) _ (s .pre .0) (s .pre .1) _ (c .before .loop-test .taken))
+mul-start-of c =
+    let s = c .before .before .before .before in
+    omega (
+      arith,
+      c .reach-at .ensures,
+      reach-small (s .args .head) (s .args .count) _ (s .pre .0) (s .pre .1) _ (c .before .loop-test .taken),
+    )
 
 element-copy-out-start-of : tie.Need-element-copy-out-start-of Inv-loop μ-loop
-element-copy-out-start-of c = let s = c .before .before .before .before in omega (arith, c .reach-at .ensures, reach-small (s .args .head) (s .args .count) _ (s .pre .0) (s .pre .1) _ (c .before .loop-test .taken))
+element-copy-out-start-of c =
+    let s = c .before .before .before .before in
+    omega (
+      arith,
+      c .reach-at .ensures,
+      reach-small (s .args .head) (s .args .count) _ (s .pre .0) (s .pre .1) _ (c .before .loop-test .taken),
+    )
 
 mul-start-of-2 : tie.Need-mul-start-of-2 Inv-loop μ-loop
-mul-start-of-2 c = let s = c .before .before .before .before .before in omega (arith, c .before .reach-at .ensures, reach-small (s .args .head) (s .args .count) _ (s .pre .0) (s .pre .1) _ (c .before .before .loop-test .taken))
+mul-start-of-2 c =
+    let s = c .before .before .before .before .before in
+    omega (
+      arith,
+      c .before .reach-at .ensures,
+      reach-small (s .args .head) (s .args .count) _ (s .pre .0) (s .pre .1) _ (c .before .before .loop-test .taken),
+    )
 
 element-copy-out-start-of-2 : tie.Need-element-copy-out-start-of-2 Inv-loop μ-loop
-element-copy-out-start-of-2 c = let s = c .before .before .before .before .before in omega (arith, c .before .reach-at .ensures, reach-small (s .args .head) (s .args .count) _ (s .pre .0) (s .pre .1) _ (c .before .before .loop-test .taken))
+element-copy-out-start-of-2 c =
+    let s = c .before .before .before .before .before in
+    omega (
+      arith,
+      c .before .reach-at .ensures,
+      reach-small (s .args .head) (s .args .count) _ (s .pre .0) (s .pre .1) _ (c .before .before .loop-test .taken),
+    )
 
 start-of-requires : tie.Need-start-of-requires Inv-loop μ-loop
 start-of-requires c κs = search needs
 
 mul-first : tie.Need-mul-first Inv-loop μ-loop
-mul-first c = let s = c .before .before .before .before .before .before .before in omega (arith, c .before .before .before .reach-at .ensures, reach-small (s .args .head) (s .args .count) _ (s .pre .0) (s .pre .1) _ (c .before .before .before .before .loop-test .taken))
+mul-first c =
+    let at-reach-at = c .before .before .before in
+    let at-loop-test = at-reach-at .before in
+    let s = at-loop-test .before .before .before in
+    omega (
+      arith,
+      at-reach-at .reach-at .ensures,
+      reach-small (s .args .head) (s .args .count) _ (s .pre .0) (s .pre .1) _ (at-loop-test .loop-test .taken),
+    )
 
 element-write-first : tie.Need-element-write-first Inv-loop μ-loop
-element-write-first c = let s = c .before .before .before .before .before .before .before in omega (arith, c .before .before .before .reach-at .ensures, reach-small (s .args .head) (s .args .count) _ (s .pre .0) (s .pre .1) _ (c .before .before .before .before .loop-test .taken))
+element-write-first c =
+    let at-reach-at = c .before .before .before in
+    let at-loop-test = at-reach-at .before in
+    let s = at-loop-test .before .before .before in
+    omega (
+      arith,
+      at-reach-at .reach-at .ensures,
+      reach-small (s .args .head) (s .args .count) _ (s .pre .0) (s .pre .1) _ (at-loop-test .loop-test .taken),
+    )
 
 add-last : tie.Need-add-last Inv-loop μ-loop
-add-last c = omega (arith, c .before .before .before .before .loop-test .taken)
+add-last c = let at-loop-test = c .before .before .before .before in omega (arith, at-loop-test .loop-test .taken)
 
 mul-last : tie.Need-mul-last Inv-loop μ-loop
-mul-last c = let s = c .before .before .before .before .before .before .before in omega (arith, c .before .before .before .reach-at .ensures, reach-small (s .args .head) (s .args .count) _ (s .pre .0) (s .pre .1) _ (c .before .before .before .before .loop-test .taken))
+mul-last c =
+    let at-reach-at = c .before .before .before in
+    let at-loop-test = at-reach-at .before in
+    let s = at-loop-test .before .before .before in
+    omega (
+      arith,
+      at-reach-at .reach-at .ensures,
+      reach-small (s .args .head) (s .args .count) _ (s .pre .0) (s .pre .1) _ (at-loop-test .loop-test .taken),
+    )
 
 element-write-last : tie.Need-element-write-last Inv-loop μ-loop
-element-write-last c = let s = c .before .before .before .before .before .before .before in omega (arith, c .before .before .before .reach-at .ensures, reach-small (s .args .head) (s .args .count) _ (s .pre .0) (s .pre .1) _ (c .before .before .before .before .loop-test .taken))
+element-write-last c =
+    let at-reach-at = c .before .before .before in
+    let at-loop-test = at-reach-at .before in
+    let s = at-loop-test .before .before .before in
+    omega (
+      arith,
+      at-reach-at .reach-at .ensures,
+      reach-small (s .args .head) (s .args .count) _ (s .pre .0) (s .pre .1) _ (at-loop-test .loop-test .taken),
+    )
 
 larger-requires : tie.Need-larger-requires Inv-loop μ-loop
 larger-requires c κs = search needs
 
 add-i : tie.Need-add-i Inv-loop μ-loop
-add-i c = omega (arith, c .before .before .before .before .before .loop-test .taken)
+add-i c = let at-loop-test = c .before .before .before .before .before in omega (arith, at-loop-test .loop-test .taken)
 
 loop-less : tie.Need-loop-less Inv-loop μ-loop
-loop-less c = omega (arith, c .before .before .before .before .before .loop-test .taken)
+loop-less c =
+    let at-loop-test = c .before .before .before .before .before in
+    omega (arith, at-loop-test .loop-test .taken)
 
 loop-again : tie.Need-loop-again Inv-loop μ-loop
-loop-again c = let s = c .before .before .before .before .before .before .before .before in (omega (arith, c .before .before .before .before .before .loop-test .taken), ranges-more _ _ _ _ _ _ _ _ (c .before .before .before .before .before .before .loop .inv .1) (c .before .before .before .before .reach-at .ensures) (omega (arith, c .before .before .before .before .reach-at .ensures, reach-small (s .args .head) (s .args .count) _ (s .pre .0) (s .pre .1) _ (c .before .before .before .before .before .loop-test .taken))) (c .before .start-of .ensures) (c .larger .ensures))
+loop-again c =
+    let at-reach-at = c .before .before .before .before in
+    let at-loop-test = at-reach-at .before in
+    let at-loop = at-loop-test .before in
+    let s = at-loop .before .before in (
+      omega (arith, at-loop-test .loop-test .taken),
+      ranges-more _ _ _ _ _ _ _ _ (at-loop .loop .inv .1) (at-reach-at .reach-at .ensures)
+          (omega (
+            arith,
+            at-reach-at .reach-at .ensures,
+            reach-small (s .args .head) (s .args .count) _ (s .pre .0) (s .pre .1) _ (at-loop-test .loop-test .taken),
+          ))
+          (c .before .start-of .ensures) (c .larger .ensures),
+    )
 
 returns : tie.Need-returns Inv-loop μ-loop
 returns c = ranges-end _ _ _ _ _ _ (c .before .loop .inv .0) (c .loop-test .left) (c .before .loop .inv .1)

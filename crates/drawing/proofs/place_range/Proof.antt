@@ -16,16 +16,29 @@ loop-holds : tie.Need-loop-holds Inv-loop μ-loop
 loop-holds c = let s = c .before .before in (omega arith, s .pre .2, raised-none _ _ _ _ _)
 
 place-one-requires : tie.Need-place-one-requires Inv-loop μ-loop
-place-one-requires c κs = let s = c .before .before .before .before .before in (s .pre .0, s .pre .1, omega (arith, s .pre .3, c .before .loop-test .taken), omega (arith, s .pre .4, c .before .before .loop .inv .2 .same))
+place-one-requires c κs =
+    let s = c .before .before .before .before .before in (
+      s .pre .0,
+      s .pre .1,
+      omega (arith, s .pre .3, c .before .loop-test .taken),
+      omega (arith, s .pre .4, c .before .before .loop .inv .2 .same),
+    )
 
 add-i : tie.Need-add-i Inv-loop μ-loop
-add-i c = omega (arith, c .before .before .before .before .loop-test .taken)
+add-i c = let at-loop-test = c .before .before .before .before in omega (arith, at-loop-test .loop-test .taken)
 
 loop-less : tie.Need-loop-less Inv-loop μ-loop
-loop-less c = omega (arith, c .before .before .before .before .loop-test .taken)
+loop-less c = let at-loop-test = c .before .before .before .before in omega (arith, at-loop-test .loop-test .taken)
 
 loop-again : tie.Need-loop-again Inv-loop μ-loop
-loop-again c = let v = c .before .before .before .before .before .loop .inv in (omega (arith, v .0), omega (arith, c .before .before .before .before .loop-test .taken), raised-on _ _ _ _ _ _ _ _ _ (v .0) (omega arith) (v .2) (c .before .before .place-one .ensures))
+loop-again c =
+    let at-loop-test = c .before .before .before .before in
+    let at-loop = at-loop-test .before in
+    let v = at-loop .loop .inv in (
+      omega (arith, v .0),
+      omega (arith, at-loop-test .loop-test .taken),
+      raised-on _ _ _ _ _ _ _ _ _ (v .0) (omega arith) (v .2) (c .before .before .place-one .ensures),
+    )
 
 same-length : tie.Need-same-length Inv-loop μ-loop
 same-length c = c .before .loop .inv .2 .same

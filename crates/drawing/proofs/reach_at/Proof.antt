@@ -24,10 +24,19 @@ enum-told : tie.Need-enum-told
 enum-told c = search needs
 
 returns : tie.Need-returns
-returns c = let s = c .before .before .before .before .before .before in ap (λ q. q .reach .0) (told (s .args .head) (s .args .count) _ (s .pre .0) (s .pre .1) (s .args .i) (s .pre .2) _ _ (c .before .before .before .before .plunge-at .ensures) (c .before .before .maybe .given .1))
+returns c =
+    let at-plunge-at = c .before .before .before .before in
+    let s = at-plunge-at .before .before in
+    ap (λ q. q .reach .0)
+    (told (s .args .head) (s .args .count) _ (s .pre .0) (s .pre .1) (s .args .i) (s .pre .2) _ _
+    (at-plunge-at .plunge-at .ensures) (c .before .before .maybe .given .1))
 
 returns-2 : tie.Need-returns-2
-returns-2 c = let s = c .before .before .before .before in absurd (told-none (s .args .head) (s .args .count) _ (s .pre .0) (s .pre .1) (s .args .i) (s .pre .2) _ (c .before .before .plunge-at .ensures) (c .enum-told .given .1))
+returns-2 c =
+    let s = c .before .before .before .before in
+    absurd
+    (told-none (s .args .head) (s .args .count) _ (s .pre .0) (s .pre .1) (s .args .i) (s .pre .2) _
+    (c .before .before .plunge-at .ensures) (c .enum-told .given .1))
 
 pub reach-at-spec : {M : Type 1} → statement M
 reach-at-spec =

@@ -62,8 +62,13 @@ same-length c = search needs
 
 returns : tie.Need-returns
 returns c =
-    let a = c .before .before .before .before .before .args in
-    seven-end (a .out .now) (a .at) (c .before .before .before .before .before .pre) (a .number) (c .before .before .before .low-byte .result) (c .before .before .low-byte2 .result) (c .before .low-byte3 .result) (c .low-byte4 .result) (c .before .before .before .low-byte .ensures) (c .before .before .low-byte2 .ensures) (c .before .low-byte3 .ensures) (c .low-byte4 .ensures)
+    let at-low-byte = c .before .before .before in
+    let at-start = at-low-byte .before .before in
+    let a = at-start .args in
+    seven-end (a .out .now) (a .at) (at-start .pre) (a .number) (at-low-byte .low-byte .result)
+    (c .before .before .low-byte2 .result) (c .before .low-byte3 .result) (c .low-byte4 .result)
+    (at-low-byte .low-byte .ensures) (c .before .before .low-byte2 .ensures) (c .before .low-byte3 .ensures)
+    (c .low-byte4 .ensures)
 
 pub put-end-spec : {M : Type 1} → statement M
 put-end-spec =

@@ -38,8 +38,10 @@ same-length c = search needs
 
 returns : tie.Need-returns
 returns c =
-    let a = c .before .before .before .before .args in
-    six-head (a .out .now) (a .head) (c .before .before .byte .result) (c .before .before .before .before .pre .0) (c .before .before .byte .ensures)
+    let at-start = c .before .before .before .before in
+    let a = at-start .args in
+    six-head (a .out .now) (a .head) (c .before .before .byte .result) (at-start .pre .0)
+    (c .before .before .byte .ensures)
 
 pub put-head-spec : {M : Type 1} → statement M
 put-head-spec =

@@ -12,7 +12,12 @@ cast-result-2 : tie.Need-cast-result-2
 cast-result-2 c = search needs
 
 mul-result : tie.Need-mul-result
-mul-result c = omega (arith, area-fits (c .before .before .args .head .width) (c .before .before .args .head .height) (omega arith) (omega arith))
+mul-result c =
+    omega (
+      arith,
+      area-fits (c .before .before .args .head .width) (c .before .before .args .head .height) (omega arith)
+          (omega arith),
+    )
 
 returns : tie.Need-returns
 returns c = search needs

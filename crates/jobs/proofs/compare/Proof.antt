@@ -1,18 +1,19 @@
 -- `compare` walks the list beside the file: like to the end of both, or 12 at the first byte unlike.
-use mathlib.Core.Path.{_≡_, sym, _∙_}
-use mathlib.Core.Bool.{true, false}
+use mathlib.Core.Path.{sym, _∙_}
 use Rattle.jobs.proofs.Checking.{compare-asks, compared-like, compared-unlike, not-both}
 use mathlib.Core.List.{[], _∷_}
 use borrow.Author.Needs.{needs}
 use Rattle.jobs.proofs.compare.Statement.{statement}
 use Rattle.jobs.proofs.compare.Tie as tie
-use Rattle.walk.proofs.walk.Reads as walk-reads
+use Rattle.listing_plunges.proofs.send_listing.Reads as send-listing-reads
 
-slice-aggregate-walk : tie.Need-slice-aggregate-walk
-slice-aggregate-walk c = search needs
+slice-aggregate-send-listing : tie.Need-slice-aggregate-send-listing
+slice-aggregate-send-listing c = search needs
 
-walk-requires : tie.Need-walk-requires
-walk-requires c κs = compare-asks _ _ _ _ _ _ (c .before .before .before .before .before .before .before .pre) (0 ∷ [])
+send-listing-requires : tie.Need-send-listing-requires
+send-listing-requires c κs =
+    let at-start = c .before .before .before .before .before .before .before in
+    compare-asks _ _ _ _ _ _ (at-start .pre) (0 ∷ [])
 
 mul-if2 : tie.Need-mul-if2
 mul-if2 c = search needs
@@ -27,7 +28,14 @@ same-length-2 : tie.Need-same-length-2
 same-length-2 c = search needs
 
 returns : tie.Need-returns
-returns c = (compared-like _ _ _ _ _ _ (c .before .before .before .before .before .before .before .before .before .before .before .before .before .before .before .before .pre) _ _ _ (c .before .before .before .before .before .before .before .before .walk .ensures .0) (c .before .before .if1 .taken) (c .if2 .taken), c .before .before .before .before .before .before .before .before .walk .ensures .1, c .before .before .before .before .before .before .before .before .walk .ensures .2)
+returns c =
+    let at-send-listing = c .before .before .before .before .before .before .before .before in
+    let at-start = at-send-listing .before .before .before .before .before .before .before .before in (
+      compared-like _ _ _ _ _ _ (at-start .pre) _ _ _ (at-send-listing .send-listing .ensures .0) (c .before .before .if1 .taken)
+          (c .if2 .taken),
+      at-send-listing .send-listing .ensures .1,
+      at-send-listing .send-listing .ensures .2,
+    )
 
 same-length-3 : tie.Need-same-length-3
 same-length-3 c = search needs
@@ -36,7 +44,13 @@ same-length-4 : tie.Need-same-length-4
 same-length-4 c = search needs
 
 returns-2 : tie.Need-returns-2
-returns-2 c = (compared-unlike _ _ _ _ _ _ (c .before .before .before .before .before .before .before .before .before .before .before .before .before .before .before .before .pre) _ _ _ (c .before .before .before .before .before .before .before .before .walk .ensures .0) (λ l e. c .if2 .left e), c .before .before .before .before .before .before .before .before .walk .ensures .1, c .before .before .before .before .before .before .before .before .walk .ensures .2)
+returns-2 c =
+    let at-send-listing = c .before .before .before .before .before .before .before .before in
+    let at-start = at-send-listing .before .before .before .before .before .before .before .before in (
+      compared-unlike _ _ _ _ _ _ (at-start .pre) _ _ _ (at-send-listing .send-listing .ensures .0) (λ l e. c .if2 .left e),
+      at-send-listing .send-listing .ensures .1,
+      at-send-listing .send-listing .ensures .2,
+    )
 
 same-length-5 : tie.Need-same-length-5
 same-length-5 c = search needs
@@ -45,14 +59,21 @@ same-length-6 : tie.Need-same-length-6
 same-length-6 c = search needs
 
 returns-3 : tie.Need-returns-3
-returns-3 c = (compared-unlike _ _ _ _ _ _ (c .before .before .before .before .before .before .before .before .before .before .before .before .before .before .pre) _ _ _ (c .before .before .before .before .before .before .walk .ensures .0) (λ l e. not-both (sym l ∙ c .if1 .left)), c .before .before .before .before .before .before .walk .ensures .1, c .before .before .before .before .before .before .walk .ensures .2)
+returns-3 c =
+    let at-send-listing = c .before .before .before .before .before .before in
+    let at-start = at-send-listing .before .before .before .before .before .before .before .before in (
+      compared-unlike _ _ _ _ _ _ (at-start .pre) _ _ _ (at-send-listing .send-listing .ensures .0)
+          (λ l e. not-both (sym l ∙ c .if1 .left)),
+      at-send-listing .send-listing .ensures .1,
+      at-send-listing .send-listing .ensures .2,
+    )
 
 pub compare-spec : {M : Type 1} → statement M
 compare-spec =
     tie.close
     (tie.spec
-    slice-aggregate-walk
-    walk-requires
+    slice-aggregate-send-listing
+    send-listing-requires
     mul-if2
     add-if2
     same-length

@@ -1,5 +1,5 @@
 -- `draw` reads, measures, and draws.
-use mathlib.Core.Path.{_≡_, sym, _∙_}
+use mathlib.Core.Path.{sym, _∙_}
 use native.Mathlib.Omega.{arith}
 use Rattle.reading.proofs.Answers.{read-refused, read-accepted}
 use Rattle.jobs.proofs.Calls.{draw-fault, draw-asks, draw-short, draw-done}
@@ -27,19 +27,47 @@ too-short-requires : tie.Need-too-short-requires
 too-short-requires c κs = search needs
 
 returns : tie.Need-returns
-returns c = let w = read-accepted _ (c .before .before .before .before .before .before .before .before .before .before .args .file .now) _ (sym (c .before .before .before .before .before .answer2 .given .1) ∙ c .before .before .before .before .before .before .before .read .ensures) in draw-short (c .before .before .before .before .before .before .before .before .before .before .args .file .now) _ w (c .before .before .before .before .before .before .before .before .before .before .args .out .now) _ (c .too-short .ensures) (omega (arith, c .before .if1 .taken, c .before .before .cells-of .ensures))
+returns c =
+    let at-answer2 = c .before .before .before .before .before in
+    let at-read = at-answer2 .before .before in
+    let at-start = at-read .before .before .before in
+    let given = at-start .args in
+    let w = read-accepted _ (given .file .now) _ (sym (at-answer2 .answer2 .given .1) ∙ at-read .read .ensures) in
+    draw-short (given .file .now) _ w (given .out .now) _ (c .too-short .ensures)
+    (omega (arith, c .before .if1 .taken, c .before .before .cells-of .ensures))
 
 draw-into-requires : tie.Need-draw-into-requires
-draw-into-requires c κs = let w = read-accepted _ (c .before .before .before .before .before .before .before .before .before .before .args .file .now) _ (sym (c .before .before .before .before .before .answer2 .given .1) ∙ c .before .before .before .before .before .before .before .read .ensures) in let a = draw-asks (c .before .before .before .before .before .before .before .before .before .before .args .file .now) _ w in (a .0, a .1, omega (arith, c .before .if1 .left, c .before .before .cells-of .ensures))
+draw-into-requires c κs =
+    let at-answer2 = c .before .before .before .before .before in
+    let at-read = at-answer2 .before .before in
+    let at-start = at-read .before .before .before in
+    let w =
+    read-accepted _ (at-start .args .file .now) _ (sym (at-answer2 .answer2 .given .1) ∙ at-read .read .ensures) in
+    let a = draw-asks (at-start .args .file .now) _ w in
+    (a .0, a .1, omega (arith, c .before .if1 .left, c .before .before .cells-of .ensures))
 
 returns-2 : tie.Need-returns-2
-returns-2 c = draw-fault (c .before .before .before .before .before .before .args .file .now) _ (c .before .before .before .before .before .before .args .out .now) (read-refused _ (c .before .before .before .before .before .before .args .file .now) _ (sym (c .before .answer .given .1) ∙ c .before .before .before .read .ensures))
+returns-2 c =
+    let at-read = c .before .before .before in
+    let at-start = at-read .before .before .before in
+    let given = at-start .args in
+    draw-fault (given .file .now) _ (given .out .now)
+    (read-refused _ (given .file .now) _ (sym (c .before .answer .given .1) ∙ at-read .read .ensures))
 
 same-length : tie.Need-same-length
 same-length c = search needs
 
 returns-3 : tie.Need-returns-3
-returns-3 c = let w = read-accepted _ (c .before .before .before .before .before .before .before .before .before .before .before .before .before .args .file .now) _ (sym (c .before .before .before .before .before .before .before .before .answer2 .given .1) ∙ c .before .before .before .before .before .before .before .before .before .before .read .ensures) in draw-done (c .before .before .before .before .before .before .before .before .before .before .before .before .before .args .file .now) _ w (c .before .before .before .before .before .before .before .before .before .before .before .before .before .args .out .now) _ (omega (arith, c .before .before .before .before .if1 .left, c .before .before .before .before .before .cells-of .ensures)) (c .before .before .draw-into .ensures)
+returns-3 c =
+    let at-if1 = c .before .before .before .before in
+    let at-cells-of = at-if1 .before in
+    let at-answer2 = at-cells-of .before .before .before in
+    let at-read = at-answer2 .before .before in
+    let at-start = at-read .before .before .before in
+    let given = at-start .args in
+    let w = read-accepted _ (given .file .now) _ (sym (at-answer2 .answer2 .given .1) ∙ at-read .read .ensures) in
+    draw-done (given .file .now) _ w (given .out .now) _
+    (omega (arith, at-if1 .if1 .left, at-cells-of .cells-of .ensures)) (c .before .before .draw-into .ensures)
 
 pub draw-spec : {M : Type 1} → statement M
 draw-spec =

@@ -1,5 +1,5 @@
 -- `tidy` reads, measures, draws into its third work buffer, and lists that.
-use mathlib.Core.Path.{_≡_, sym, _∙_}
+use mathlib.Core.Path.{sym, _∙_}
 use native.Mathlib.Omega.{arith}
 use Rattle.reading.proofs.Answers.{read-refused, read-accepted}
 use Rattle.jobs.proofs.Calls.{tidy-fault, draw-asks, tidy-short, tidy-done}
@@ -32,16 +32,64 @@ too-short-requires : tie.Need-too-short-requires
 too-short-requires c κs = search needs
 
 returns : tie.Need-returns
-returns c = let w = read-accepted _ (c .before .before .before .before .before .before .before .before .before .before .before .before .before .before .args .file .now) _ (sym (c .before .before .before .before .before .before .answer2 .given .1) ∙ c .before .before .before .before .before .before .before .before .read .ensures) in tidy-short (c .before .before .before .before .before .before .before .before .before .before .before .before .before .before .args .file .now) _ w (c .before .before .before .before .before .before .before .before .before .before .before .before .before .before .args .out .now) (c .before .before .before .before .before .before .before .before .before .before .before .before .before .before .args .a .now) (c .before .before .before .before .before .before .before .before .before .before .before .before .before .before .args .b .now) (c .before .before .before .before .before .before .before .before .before .before .before .before .before .before .args .c .now) _ (c .before .before .before .shortest .ensures) _ (c .too-short .ensures) (omega (arith, c .before .if1 .taken, c .before .before .cells-of .ensures))
+returns c =
+    let at-shortest = c .before .before .before in
+    let at-answer2 = at-shortest .before .before .before in
+    let at-read = at-answer2 .before .before in
+    let at-start = at-read .before .before .before .before .before .before in
+    let given = at-start .args in
+    let w = read-accepted _ (given .file .now) _ (sym (at-answer2 .answer2 .given .1) ∙ at-read .read .ensures) in
+    tidy-short (given .file .now) _ w (given .out .now) (given .a .now) (given .b .now) (given .c .now) _
+    (at-shortest .shortest .ensures) _ (c .too-short .ensures)
+    (omega (arith, c .before .if1 .taken, c .before .before .cells-of .ensures))
 
 draw-into-requires : tie.Need-draw-into-requires
-draw-into-requires c κs = let w = read-accepted _ (c .before .before .before .before .before .before .before .before .before .before .before .before .before .before .args .file .now) _ (sym (c .before .before .before .before .before .before .answer2 .given .1) ∙ c .before .before .before .before .before .before .before .before .read .ensures) in let a = draw-asks (c .before .before .before .before .before .before .before .before .before .before .before .before .before .before .args .file .now) _ w in (a .0, a .1, omega (arith, c .before .if1 .left, c .before .before .cells-of .ensures, c .before .before .before .shortest .ensures))
+draw-into-requires c κs =
+    let at-shortest = c .before .before .before in
+    let at-answer2 = at-shortest .before .before .before in
+    let at-read = at-answer2 .before .before in
+    let at-start = at-read .before .before .before .before .before .before in
+    let w =
+    read-accepted _ (at-start .args .file .now) _ (sym (at-answer2 .answer2 .given .1) ∙ at-read .read .ensures) in
+    let a = draw-asks (at-start .args .file .now) _ w in (
+      a .0,
+      a .1,
+      omega (arith, c .before .if1 .left, c .before .before .cells-of .ensures, at-shortest .shortest .ensures),
+    )
 
 list-into-requires : tie.Need-list-into-requires
-list-into-requires c κs = let w = read-accepted _ (c .before .before .before .before .before .before .before .before .before .before .before .before .before .before .before .before .before .before .before .before .before .args .file .now) _ (sym (c .before .before .before .before .before .before .before .before .before .before .before .before .before .answer2 .given .1) ∙ c .before .before .before .before .before .before .before .before .before .before .before .before .before .before .before .read .ensures) in let s = draw-asks (c .before .before .before .before .before .before .before .before .before .before .before .before .before .before .before .before .before .before .before .before .before .args .file .now) _ w .0 in (s .wide, s .narrow, s .low, omega (arith, c .before .before .before .before .before .before .before .before .if1 .left, c .before .before .before .before .before .before .before .before .before .cells-of .ensures, c .before .before .before .before .before .before .before .before .before .before .shortest .ensures, c .before .before .before .before .before .before .draw-into .ensures .same), omega (arith, c .before .before .before .before .before .before .before .before .if1 .left, c .before .before .before .before .before .before .before .before .before .cells-of .ensures, c .before .before .before .before .before .before .before .before .before .before .shortest .ensures), omega (arith, c .before .before .before .before .before .before .before .before .if1 .left, c .before .before .before .before .before .before .before .before .before .cells-of .ensures, c .before .before .before .before .before .before .before .before .before .before .shortest .ensures))
+list-into-requires c κs =
+    let at-draw-into = c .before .before .before .before .before .before in
+    let at-if1 = at-draw-into .before .before in
+    let at-cells-of = at-if1 .before in
+    let at-shortest = at-cells-of .before in
+    let at-answer2 = at-shortest .before .before .before in
+    let at-read = at-answer2 .before .before in
+    let at-start = at-read .before .before .before .before .before .before in
+    let w =
+    read-accepted _ (at-start .args .file .now) _ (sym (at-answer2 .answer2 .given .1) ∙ at-read .read .ensures) in
+    let s = draw-asks (at-start .args .file .now) _ w .0 in (
+      s .wide,
+      s .narrow,
+      s .low,
+      omega (
+        arith,
+        at-if1 .if1 .left,
+        at-cells-of .cells-of .ensures,
+        at-shortest .shortest .ensures,
+        at-draw-into .draw-into .ensures .same,
+      ),
+      omega (arith, at-if1 .if1 .left, at-cells-of .cells-of .ensures, at-shortest .shortest .ensures),
+      omega (arith, at-if1 .if1 .left, at-cells-of .cells-of .ensures, at-shortest .shortest .ensures),
+    )
 
 returns-2 : tie.Need-returns-2
-returns-2 c = tidy-fault (c .before .before .before .before .before .before .before .before .before .args .file .now) _ (c .before .before .before .before .before .before .before .before .before .args .out .now) (c .before .before .before .before .before .before .before .before .before .args .a .now) (c .before .before .before .before .before .before .before .before .before .args .b .now) (c .before .before .before .before .before .before .before .before .before .args .c .now) (read-refused _ (c .before .before .before .before .before .before .before .before .before .args .file .now) _ (sym (c .before .answer .given .1) ∙ c .before .before .before .read .ensures))
+returns-2 c =
+    let at-read = c .before .before .before in
+    let at-start = at-read .before .before .before .before .before .before in
+    let given = at-start .args in
+    tidy-fault (given .file .now) _ (given .out .now) (given .a .now) (given .b .now) (given .c .now)
+    (read-refused _ (given .file .now) _ (sym (c .before .answer .given .1) ∙ at-read .read .ensures))
 
 same-length : tie.Need-same-length
 same-length c = search needs
@@ -56,7 +104,21 @@ same-length-4 : tie.Need-same-length-4
 same-length-4 c = search needs
 
 returns-3 : tie.Need-returns-3
-returns-3 c = let w = read-accepted _ (c .before .before .before .before .before .before .before .before .before .before .before .before .before .before .before .before .before .before .before .before .before .before .before .before .before .before .before .before .args .file .now) _ (sym (c .before .before .before .before .before .before .before .before .before .before .before .before .before .before .before .before .before .before .before .before .answer2 .given .1) ∙ c .before .before .before .before .before .before .before .before .before .before .before .before .before .before .before .before .before .before .before .before .before .before .read .ensures) in tidy-done (c .before .before .before .before .before .before .before .before .before .before .before .before .before .before .before .before .before .before .before .before .before .before .before .before .before .before .before .before .args .file .now) _ w (c .before .before .before .before .before .before .before .before .before .before .before .before .before .before .before .before .before .before .before .before .before .before .before .before .before .before .before .before .args .out .now) (c .before .before .before .before .before .before .before .before .before .before .before .before .before .before .before .before .before .before .before .before .before .before .before .before .before .before .before .before .args .a .now) (c .before .before .before .before .before .before .before .before .before .before .before .before .before .before .before .before .before .before .before .before .before .before .before .before .before .before .before .before .args .b .now) (c .before .before .before .before .before .before .before .before .before .before .before .before .before .before .before .before .before .before .before .before .before .before .before .before .before .before .before .before .args .c .now) _ (c .before .before .before .before .before .before .before .before .before .before .before .before .before .before .before .before .before .shortest .ensures) (omega (arith, c .before .before .before .before .before .before .before .before .before .before .before .before .before .before .before .if1 .left, c .before .before .before .before .before .before .before .before .before .before .before .before .before .before .before .before .cells-of .ensures)) _ _ _ _ _ (c .before .before .before .before .before .before .before .before .before .before .before .before .before .draw-into .ensures) (c .before .before .before .before .before .before .list-into .ensures .0) (c .before .before .before .before .before .before .list-into .ensures .1) (c .before .before .before .before .before .before .list-into .ensures .2)
+returns-3 c =
+    let at-list-into = c .before .before .before .before .before .before in
+    let at-draw-into = at-list-into .before .before .before .before .before .before .before in
+    let at-if1 = at-draw-into .before .before in
+    let at-cells-of = at-if1 .before in
+    let at-shortest = at-cells-of .before in
+    let at-answer2 = at-shortest .before .before .before in
+    let at-read = at-answer2 .before .before in
+    let at-start = at-read .before .before .before .before .before .before in
+    let given = at-start .args in
+    let w = read-accepted _ (given .file .now) _ (sym (at-answer2 .answer2 .given .1) ∙ at-read .read .ensures) in
+    tidy-done (given .file .now) _ w (given .out .now) (given .a .now) (given .b .now) (given .c .now) _
+    (at-shortest .shortest .ensures) (omega (arith, at-if1 .if1 .left, at-cells-of .cells-of .ensures)) _ _ _ _ _
+    (at-draw-into .draw-into .ensures) (at-list-into .list-into .ensures .0) (at-list-into .list-into .ensures .1)
+    (at-list-into .list-into .ensures .2)
 
 pub tidy-spec : {M : Type 1} → statement M
 tidy-spec =

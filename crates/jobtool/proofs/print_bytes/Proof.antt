@@ -12,7 +12,9 @@ returns : tie.Need-returns
 returns c = search needs
 
 slice-aggregate-write-all : tie.Need-slice-aggregate-write-all
-slice-aggregate-write-all c = counts (c .before .before .before .args .n) (c .before .before .before .args .out .now) (omega arith) .1
+slice-aggregate-write-all c =
+    let at-start = c .before .before .before in
+    counts (at-start .args .n) (at-start .args .out .now) (omega arith) .1
 
 write-all-requires : tie.Need-write-all-requires
 write-all-requires c κs = search needs

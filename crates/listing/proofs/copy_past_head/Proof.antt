@@ -30,13 +30,27 @@ loop-less : tie.Need-loop-less Inv-loop μ-loop
 loop-less c = omega arith
 
 loop-again : tie.Need-loop-again Inv-loop μ-loop
-loop-again c = (omega arith, omega arith, omega (arith, length-set (c .before .before .loop .dst) (c .before .before .loop .n) (getD (c .before .before .before .args .src .now) (c .before .before .loop .n) 0)), copy-more (c .before .before .before .args .dst .now) (c .before .before .loop .dst) (c .before .before .before .args .src .now) (c .before .before .loop .n) (c .before .before .loop .inv .0) (omega arith) (omega arith) (c .before .before .loop .inv .3))
+loop-again c =
+    let at-start = c .before .before .before in
+    let given = at-start .args in (
+      omega arith,
+      omega arith,
+      omega (
+        arith,
+        length-set (c .before .before .loop .dst) (c .before .before .loop .n)
+            (getD (given .src .now) (c .before .before .loop .n) 0),
+      ),
+      copy-more (given .dst .now) (c .before .before .loop .dst) (given .src .now) (c .before .before .loop .n)
+          (c .before .before .loop .inv .0) (omega arith) (omega arith) (c .before .before .loop .inv .3),
+    )
 
 same-length : tie.Need-same-length Inv-loop μ-loop
 same-length c = omega arith
 
 returns : tie.Need-returns Inv-loop μ-loop
-returns c = let e : c .before .loop .n ≡ c .before .before .args .to = omega arith in c .before .loop .inv .3 ∙ ap (λ (k : ℕ). paste (c .before .before .args .dst .now) 6 (drop 6 (c .before .before .args .src .now)) (k - 6)) e
+returns c =
+    let e : c .before .loop .n ≡ c .before .before .args .to = omega arith in c .before .loop .inv .3 ∙ ap
+    (λ (k : ℕ). paste (c .before .before .args .dst .now) 6 (drop 6 (c .before .before .args .src .now)) (k - 6)) e
 
 pub copy-past-head-spec : {M : Type 1} → statement M
 copy-past-head-spec =

@@ -1,14 +1,13 @@
 -- `put_plunges` copies what was kept, or makes the climb that writes.
-use native.Mathlib.Omega.{arith}
 use Rattle.theory.specs.Listing.{listing}
-use Rattle.refusal.specs.Refusals.{largestRung}
-use Rattle.climb.proofs.Pairs.{kept-none}
+use Rattle.refusal.specs.Refusals.{largestErosion}
+use Rattle.erosion_series.proofs.Pairs.{kept-none}
 use Rattle.listing.proofs.Files.{kept-put}
 use borrow.Author.Needs.{needs}
 use Rattle.listing.proofs.put_plunges.Statement.{statement}
 use Rattle.listing.proofs.put_plunges.Tie as tie
 use Rattle.listing.proofs.copy_past_head.Reads as copy-past-head-reads
-use Rattle.walk.proofs.walk.Reads as walk-reads
+use Rattle.listing_plunges.proofs.send_listing.Reads as send-listing-reads
 
 copy-past-head-requires : tie.Need-copy-past-head-requires
 copy-past-head-requires c κs = search needs
@@ -17,10 +16,19 @@ same-length : tie.Need-same-length
 same-length c = search needs
 
 returns : tie.Need-returns
-returns c = (kept-put (listing (c .before .before .before .before .before .before .before .before .before .before .args .head) largestRung (c .before .before .before .before .before .before .before .before .before .before .args .relief .now)) (c .before .before .before .before .before .before .before .before .before .before .args .kept .now) (c .before .before .before .before .before .before .before .before .before .before .args .out .now) _ (c .before .before .before .before .before .before .before .before .before .before .args .end) (c .before .before .before .before .before .before .before .before .before .before .pre .7) (c .before .before .before .before .before .if1 .taken) (c .before .before .before .before .before .before .before .before .before .before .pre .9) (c .before .before .copy-past-head .ensures), kept-none _ _, kept-none _ _)
+returns c =
+    let at-if1 = c .before .before .before .before .before in
+    let at-start = at-if1 .before .before .before .before .before in
+    let given = at-start .args in (
+      kept-put (listing (given .head) largestErosion (given .relief .now)) (given .kept .now) (given .out .now) _
+          (given .end) (at-start .pre .7) (at-if1 .if1 .taken) (at-start .pre .9)
+          (c .before .before .copy-past-head .ensures),
+      kept-none _ _,
+      kept-none _ _,
+    )
 
-walk-requires : tie.Need-walk-requires
-walk-requires c κs = search needs
+send-listing-requires : tie.Need-send-listing-requires
+send-listing-requires c κs = search needs
 
 same-length-2 : tie.Need-same-length-2
 same-length-2 c = search needs
@@ -41,7 +49,7 @@ put-plunges-spec =
     copy-past-head-requires
     same-length
     returns
-    walk-requires
+    send-listing-requires
     same-length-2
     same-length-3
     same-length-4

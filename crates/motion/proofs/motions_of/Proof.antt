@@ -19,7 +19,14 @@ sink-of-requires : tie.Need-sink-of-requires
 sink-of-requires c κs = search needs
 
 returns : tie.Need-returns
-returns c = simp (c .before .before .before .change-or-stay .ensures, c .before .before .travel-to .ensures, c .before .travel-to2 .ensures, c .sink-of .ensures)
+returns c =
+    let at-change-or-stay = c .before .before .before in
+    simp (
+      at-change-or-stay .change-or-stay .ensures,
+      c .before .before .travel-to .ensures,
+      c .before .travel-to2 .ensures,
+      c .sink-of .ensures,
+    )
 
 pub motions-of-spec : {M : Type 1} → statement M
 motions-of-spec =

@@ -1,5 +1,5 @@
 -- `plunge_motions` reads the file first.
-use mathlib.Core.Path.{_≡_, sym, ap, _∙_}
+use mathlib.Core.Path.{sym, _∙_}
 use Rattle.reading.proofs.Answers.{read-refused, read-accepted}
 use Rattle.motion.proofs.Calls.{file-refused}
 use borrow.Author.Needs.{needs}
@@ -18,10 +18,15 @@ enum-known-answer-2 : tie.Need-enum-known-answer-2
 enum-known-answer-2 c = search needs
 
 motions-at-requires : tie.Need-motions-at-requires
-motions-at-requires c κs = let w = read-accepted _ _ _ (sym (c .before .answer2 .given .1) ∙ c .before .before .before .read .ensures) in (w .verdict, w .plunges)
+motions-at-requires c κs =
+    let at-read = c .before .before .before in
+    let w = read-accepted _ _ _ (sym (c .before .answer2 .given .1) ∙ at-read .read .ensures) in
+    (w .verdict, w .plunges)
 
 returns : tie.Need-returns
-returns c = file-refused _ _ _ _ (read-refused _ _ _ (sym (c .before .answer .given .1) ∙ c .before .before .before .read .ensures))
+returns c =
+    let at-read = c .before .before .before in
+    file-refused _ _ _ _ (read-refused _ _ _ (sym (c .before .answer .given .1) ∙ at-read .read .ensures))
 
 returns-2 : tie.Need-returns-2
 returns-2 c = search needs

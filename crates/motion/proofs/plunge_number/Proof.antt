@@ -1,6 +1,6 @@
 use Prim.Native.Nat.{_+_, _*_}
 -- `plunge_number` reads the plunge where its field stands; its reach is one, so there is one.
-use mathlib.Core.Path.{_≡_, sym, _∙_}
+use mathlib.Core.Path.{sym, _∙_}
 use Rattle.motion.proofs.Calls.{found-plunge, no-plunge}
 use borrow.Author.Needs.{needs}
 use Rattle.motion.proofs.plunge_number.Statement.{statement}
@@ -23,10 +23,17 @@ enum-told : tie.Need-enum-told
 enum-told c = search needs
 
 returns : tie.Need-returns
-returns c = found-plunge (c .before .before .before .before .before .args .file .now) (6 + 7 * c .before .before .before .before .before .args .i) _ (c .before .before .before .before .before .pre .1) (sym (c .before .found .given .1) ∙ c .before .before .before .plunge-at .ensures)
+returns c =
+    let at-plunge-at = c .before .before .before in
+    let at-start = at-plunge-at .before .before in
+    found-plunge (at-start .args .file .now) (6 + 7 * at-start .args .i) _ (at-start .pre .1)
+    (sym (c .before .found .given .1) ∙ at-plunge-at .plunge-at .ensures)
 
 returns-2 : tie.Need-returns-2
-returns-2 c = no-plunge (c .before .before .before .before .args .file .now) (6 + 7 * c .before .before .before .before .args .i) (c .before .before .before .before .pre .1) (sym (c .enum-told .given .1) ∙ c .before .before .plunge-at .ensures)
+returns-2 c =
+    let at-start = c .before .before .before .before in
+    no-plunge (at-start .args .file .now) (6 + 7 * at-start .args .i) (at-start .pre .1)
+    (sym (c .enum-told .given .1) ∙ c .before .before .plunge-at .ensures)
 
 pub plunge-number-spec : {M : Type 1} → statement M
 plunge-number-spec =

@@ -13,16 +13,36 @@ enum-told : tie.Need-enum-told
 enum-told c = search needs
 
 shared-slice-read-check-plate : tie.Need-shared-slice-read-check-plate
-shared-slice-read-check-plate c = omega (arith, head-room (c .before .before .before .before .before .args .file .now) _ (c .before .before .before .check-open .ensures) (c .before .enum-told .given .1))
+shared-slice-read-check-plate c =
+    let at-check-open = c .before .before .before in
+    let at-start = at-check-open .before .before in
+    omega (
+      arith,
+      head-room (at-start .args .file .now) _ (at-check-open .check-open .ensures) (c .before .enum-told .given .1),
+    )
 
 shared-slice-read-side : tie.Need-shared-slice-read-side
-shared-slice-read-side c = omega (arith, head-room (c .before .before .before .before .before .before .args .file .now) _ (c .before .before .before .before .check-open .ensures) (c .before .before .enum-told .given .1))
+shared-slice-read-side c =
+    let at-check-open = c .before .before .before .before in
+    let at-start = at-check-open .before .before in
+    omega (
+      arith,
+      head-room (at-start .args .file .now) _ (at-check-open .check-open .ensures)
+          (c .before .before .enum-told .given .1),
+    )
 
 side-requires : tie.Need-side-requires
 side-requires c κs = search needs
 
 shared-slice-read-side-2 : tie.Need-shared-slice-read-side-2
-shared-slice-read-side-2 c = omega (arith, head-room (c .before .before .before .before .before .before .before .before .args .file .now) _ (c .before .before .before .before .before .before .check-open .ensures) (c .before .before .before .before .enum-told .given .1))
+shared-slice-read-side-2 c =
+    let at-enum-told = c .before .before .before .before in
+    let at-check-open = at-enum-told .before .before in
+    let at-start = at-check-open .before .before in
+    omega (
+      arith,
+      head-room (at-start .args .file .now) _ (at-check-open .check-open .ensures) (at-enum-told .enum-told .given .1),
+    )
 
 side-requires-2 : tie.Need-side-requires-2
 side-requires-2 c κs = search needs
@@ -34,10 +54,19 @@ enum-known-opening : tie.Need-enum-known-opening
 enum-known-opening c = search needs
 
 returns : tie.Need-returns
-returns c = rw (c .before .before .before .side .ensures, c .before .side2 .ensures) at (c .check-plate .ensures) ∙ head-plate (c .before .before .before .before .before .before .before .before .before .before .args .file .now) _ (c .before .before .before .before .before .before .before .before .check-open .ensures) (c .before .before .before .before .before .before .enum-told .given .1)
+returns c =
+    let at-side = c .before .before .before in
+    let at-enum-told = at-side .before .before .before in
+    let at-check-open = at-enum-told .before .before in
+    let at-start = at-check-open .before .before in
+    rw (at-side .side .ensures, c .before .side2 .ensures) at (c .check-plate .ensures) ∙ head-plate
+    (at-start .args .file .now) _ (at-check-open .check-open .ensures) (at-enum-told .enum-told .given .1)
 
 returns-2 : tie.Need-returns-2
-returns-2 c = head-fault (c .before .before .before .before .before .args .file .now) _ (c .before .before .before .check-open .ensures) _ (c .before .opening .given .1)
+returns-2 c =
+    let at-check-open = c .before .before .before in
+    let at-start = at-check-open .before .before in
+    head-fault (at-start .args .file .now) _ (at-check-open .check-open .ensures) _ (c .before .opening .given .1)
 
 pub check-head-spec : {M : Type 1} → statement M
 check-head-spec =

@@ -14,9 +14,10 @@ refuse-requires c κs = search needs
 
 returns : tie.Need-returns
 returns c =
-    let a = c .before .before .before .args in
+    let at-start = c .before .before .before in
+    let a = at-start .args in
     let allowed = opensEither (a .tag) (a .other) (a .size) (a .file .now) (a .at) in
-    c .refuse .ensures ∙ open-short (a .file .now) (a .at) allowed (a .size) (c .before .before .before .pre) (c .before .if1 .taken)
+    c .refuse .ensures ∙ open-short (a .file .now) (a .at) allowed (a .size) (at-start .pre) (c .before .if1 .taken)
 
 opens-either-requires : tie.Need-opens-either-requires
 opens-either-requires c κs = search needs
@@ -26,24 +27,34 @@ refuse-requires-2 c κs = search needs
 
 returns-2 : tie.Need-returns-2
 returns-2 c =
-    let a = c .before .before .before .before .before .before .args in
+    let at-opens-either = c .before .before .before in
+    let at-if1 = at-opens-either .before in
+    let at-start = at-if1 .before .before in
+    let a = at-start .args in
     let allowed = opensEither (a .tag) (a .other) (a .size) (a .file .now) (a .at) in
-    c .refuse2 .ensures ∙ open-cut (a .file .now) (a .at) allowed (a .size) (c .before .before .before .before .before .before .pre) (c .before .before .before .before .if1 .left) _ (c .before .before .before .opens-either .ensures) (c .before .before .if2 .taken) (c .before .if3 .taken)
+    c .refuse2 .ensures ∙ open-cut (a .file .now) (a .at) allowed (a .size) (at-start .pre) (at-if1 .if1 .left) _
+    (at-opens-either .opens-either .ensures) (c .before .before .if2 .taken) (c .before .if3 .taken)
 
 returns-3 : tie.Need-returns-3
 returns-3 c =
-    let a = c .before .before .before .before .before .args in
+    let at-if1 = c .before .before .before in
+    let at-start = at-if1 .before .before in
+    let a = at-start .args in
     let allowed = opensEither (a .tag) (a .other) (a .size) (a .file .now) (a .at) in
-    open-whole (a .file .now) (a .at) allowed (a .size) (c .before .before .before .before .before .pre) (c .before .before .before .if1 .left) _ (c .before .before .opens-either .ensures) (c .before .if2 .taken) (c .if3 .left)
+    open-whole (a .file .now) (a .at) allowed (a .size) (at-start .pre) (at-if1 .if1 .left) _
+    (c .before .before .opens-either .ensures) (c .before .if2 .taken) (c .if3 .left)
 
 refuse-requires-3 : tie.Need-refuse-requires-3
 refuse-requires-3 c κs = search needs
 
 returns-4 : tie.Need-returns-4
 returns-4 c =
-    let a = c .before .before .before .before .before .args in
+    let at-if1 = c .before .before .before in
+    let at-start = at-if1 .before .before in
+    let a = at-start .args in
     let allowed = opensEither (a .tag) (a .other) (a .size) (a .file .now) (a .at) in
-    c .refuse3 .ensures ∙ open-wrong (a .file .now) (a .at) allowed (a .size) (c .before .before .before .before .before .pre) (c .before .before .before .if1 .left) _ (c .before .before .opens-either .ensures) (c .before .if2 .left)
+    c .refuse3 .ensures ∙ open-wrong (a .file .now) (a .at) allowed (a .size) (at-start .pre) (at-if1 .if1 .left) _
+    (c .before .before .opens-either .ensures) (c .before .if2 .left)
 
 pub check-open-spec : {M : Type 1} → statement M
 check-open-spec =

@@ -26,14 +26,27 @@ refuse-requires c κs = search needs
 
 returns : tie.Need-returns
 returns c =
-    let a = c .before .before .before .before .before .before .before .before .before .before .args in
-    let fits = read-fits (a .head) (a .file .now) (a .at) _ _ _ _ (c .before .before .before .before .before .before .before .before .plunge-at .ensures) (c .before .before .before .before .before .before .maybe .given .1) (c .before .before .before .before .fits-plate .ensures) (c .before .before .before .if1 .taken) in
+    let at-if1 = c .before .before .before in
+    let at-fits-plate = at-if1 .before in
+    let at-maybe = at-fits-plate .before .before in
+    let at-plunge-at = at-maybe .before .before in
+    let at-start = at-plunge-at .before .before in
+    let a = at-start .args in
+    let fits =
+    read-fits (a .head) (a .file .now) (a .at) _ _ _ _ (at-plunge-at .plunge-at .ensures) (at-maybe .maybe .given .1)
+    (at-fits-plate .fits-plate .ensures) (at-if1 .if1 .taken) in
     c .refuse .ensures ∙ plunge-9 (a .head) (a .file .now) (a .at) fits (c .before .if2 .taken)
 
 returns-2 : tie.Need-returns-2
 returns-2 c =
-    let a = c .before .before .before .before .before .before .before .before .before .args in
-    let fits = read-fits (a .head) (a .file .now) (a .at) _ _ _ _ (c .before .before .before .before .before .before .before .plunge-at .ensures) (c .before .before .before .before .before .maybe .given .1) (c .before .before .before .fits-plate .ensures) (c .before .before .if1 .taken) in
+    let at-fits-plate = c .before .before .before in
+    let at-maybe = at-fits-plate .before .before in
+    let at-plunge-at = at-maybe .before .before in
+    let at-start = at-plunge-at .before .before in
+    let a = at-start .args in
+    let fits =
+    read-fits (a .head) (a .file .now) (a .at) _ _ _ _ (at-plunge-at .plunge-at .ensures) (at-maybe .maybe .given .1)
+    (at-fits-plate .fits-plate .ensures) (c .before .before .if1 .taken) in
     plunge-right (a .head) (a .file .now) (a .at) fits (c .if2 .left)
 
 refuse-requires-2 : tie.Need-refuse-requires-2
@@ -47,15 +60,24 @@ refuse-requires-3 c κs = search needs
 
 returns-3 : tie.Need-returns-3
 returns-3 c =
-    let a = c .before .before .before .before .before .before .before .before .args in
-    let fits = read-fits (a .head) (a .file .now) (a .at) _ _ _ _ (c .before .before .before .before .before .before .plunge-at .ensures) (c .before .before .before .before .maybe .given .1) (c .before .before .fits-plate .ensures) (c .before .if1 .left) in
+    let at-maybe = c .before .before .before .before in
+    let at-plunge-at = at-maybe .before .before in
+    let at-start = at-plunge-at .before .before in
+    let a = at-start .args in
+    let fits =
+    read-fits (a .head) (a .file .now) (a .at) _ _ _ _ (at-plunge-at .plunge-at .ensures) (at-maybe .maybe .given .1)
+    (c .before .before .fits-plate .ensures) (c .before .if1 .left) in
     c .refuse2 .ensures ∙ plunge-8 (a .head) (a .file .now) (a .at) fits
 
 returns-4 : tie.Need-returns-4
 returns-4 c =
-    let a = c .before .before .before .before .before .args in
-    let above = none-above (a .file .now) (a .at) (sym (c .before .before .before .plunge-at .ensures) ∙ c .before .enum-told .given .1) in
-    c .refuse3 .ensures ∙ plunge-8 (a .head) (a .file .now) (a .at) (wide-ball (a .head) (plungeAt (a .file .now) (a .at)) (c .before .before .before .before .before .pre .1) above)
+    let at-plunge-at = c .before .before .before in
+    let at-start = at-plunge-at .before .before in
+    let a = at-start .args in
+    let above =
+    none-above (a .file .now) (a .at) (sym (at-plunge-at .plunge-at .ensures) ∙ c .before .enum-told .given .1) in
+    c .refuse3 .ensures ∙ plunge-8 (a .head) (a .file .now) (a .at)
+    (wide-ball (a .head) (plungeAt (a .file .now) (a .at)) (at-start .pre .1) above)
 
 pub check-plunge-spec : {M : Type 1} → statement M
 check-plunge-spec =

@@ -16,8 +16,11 @@ after-requires c κs = search needs
 
 returns : tie.Need-returns
 returns c =
-    let a = c .before .before .before .before .before .args in
-    c .after .ensures ∙ content-end (a .head) (a .file .now) (a .at) (a .n) _ (sym (c .before .before .before .opens .ensures) ∙ c .before .before .if1 .taken) (c .before .check-end .ensures)
+    let at-opens = c .before .before .before in
+    let at-start = at-opens .before .before in
+    let a = at-start .args in
+    c .after .ensures ∙ content-end (a .head) (a .file .now) (a .at) (a .n) _
+    (sym (at-opens .opens .ensures) ∙ c .before .before .if1 .taken) (c .before .check-end .ensures)
 
 check-plunge-requires : tie.Need-check-plunge-requires
 check-plunge-requires c κs = search needs
@@ -27,8 +30,11 @@ after-requires-2 c κs = search needs
 
 returns-2 : tie.Need-returns-2
 returns-2 c =
-    let a = c .before .before .before .before .before .args in
-    c .after2 .ensures ∙ content-plunge (a .head) (a .file .now) (a .at) (a .n) _ (sym (c .before .before .before .opens .ensures) ∙ c .before .before .if1 .left) (c .before .check-plunge .ensures)
+    let at-opens = c .before .before .before in
+    let at-start = at-opens .before .before in
+    let a = at-start .args in
+    c .after2 .ensures ∙ content-plunge (a .head) (a .file .now) (a .at) (a .n) _
+    (sym (at-opens .opens .ensures) ∙ c .before .before .if1 .left) (c .before .check-plunge .ensures)
 
 pub content-at-spec : {M : Type 1} → statement M
 content-at-spec =

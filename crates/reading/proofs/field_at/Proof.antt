@@ -19,21 +19,29 @@ enum-told c = search needs
 
 content-at-requires : tie.Need-content-at-requires
 content-at-requires c κs =
-    let a = c .before .before .before .before .args in
-    (field-room (a .head) (a .file .now) (a .n) _ (c .before .before .check-open .ensures) (c .enum-told .given .1), c .before .before .before .before .pre .1)
+    let at-start = c .before .before .before .before in
+    let a = at-start .args in (
+      field-room (a .head) (a .file .now) (a .n) _ (c .before .before .check-open .ensures) (c .enum-told .given .1),
+      at-start .pre .1,
+    )
 
 enum-known-opening : tie.Need-enum-known-opening
 enum-known-opening c = search needs
 
 returns : tie.Need-returns
 returns c =
-    let a = c .before .before .before .before .before .args in
-    c .content-at .ensures ∙ field-content (a .head) (a .file .now) (a .n) _ (c .before .before .before .check-open .ensures) (c .before .enum-told .given .1)
+    let at-check-open = c .before .before .before in
+    let at-start = at-check-open .before .before in
+    let a = at-start .args in
+    c .content-at .ensures ∙ field-content (a .head) (a .file .now) (a .n) _ (at-check-open .check-open .ensures)
+    (c .before .enum-told .given .1)
 
 returns-2 : tie.Need-returns-2
 returns-2 c =
-    let a = c .before .before .before .before .before .args in
-    field-fault (a .head) (a .file .now) (a .n) _ (c .before .before .before .check-open .ensures) _ (c .before .opening .given .1)
+    let at-check-open = c .before .before .before in
+    let at-start = at-check-open .before .before in
+    let a = at-start .args in
+    field-fault (a .head) (a .file .now) (a .n) _ (at-check-open .check-open .ensures) _ (c .before .opening .given .1)
 
 pub field-at-spec : {M : Type 1} → statement M
 field-at-spec =

@@ -19,7 +19,9 @@ wide-requires : tie.Need-wide-requires
 wide-requires c κs = search needs
 
 mul-result : tie.Need-mul-result
-mul-result c = omega (arith, c .wide .ensures, c .before .shared-slice-known3 .given (c .before .before .before .before .before .args .at + 1))
+mul-result c =
+    let at-start = c .before .before .before .before .before in
+    omega (arith, c .wide .ensures, c .before .shared-slice-known3 .given (at-start .args .at + 1))
 
 add-wide-2 : tie.Need-add-wide-2
 add-wide-2 c = search needs
@@ -31,10 +33,21 @@ wide-requires-2 : tie.Need-wide-requires-2
 wide-requires-2 c κs = search needs
 
 add-result : tie.Need-add-result
-add-result c = omega (arith, c .before .before .wide .ensures, c .wide2 .ensures, c .before .before .before .shared-slice-known3 .given (c .before .before .before .before .before .before .before .args .at + 1), c .before .shared-slice-known4 .given (c .before .before .before .before .before .before .before .args .at + 2))
+add-result c =
+    let at-shared-slice-known3 = c .before .before .before in
+    let at-start = at-shared-slice-known3 .before .before .before .before in
+    omega (
+      arith,
+      c .before .before .wide .ensures,
+      c .wide2 .ensures,
+      at-shared-slice-known3 .shared-slice-known3 .given (at-start .args .at + 1),
+      c .before .shared-slice-known4 .given (at-start .args .at + 2),
+    )
 
 returns : tie.Need-returns
-returns c = simp (eq-eqb _ _ (c .before .before .before .before .if1 .taken), c .before .before .wide .ensures, c .wide2 .ensures)
+returns c =
+    let at-if1 = c .before .before .before .before in
+    simp (eq-eqb _ _ (at-if1 .if1 .taken), c .before .before .wide .ensures, c .wide2 .ensures)
 
 returns-2 : tie.Need-returns-2
 returns-2 c = simp (ne-eqb _ _ (c .if1 .left))

@@ -45,10 +45,19 @@ enum-told : tie.Need-enum-told
 enum-told c = search needs
 
 returns : tie.Need-returns
-returns c = plunge-read (c .before .before .before .before .before .before .before .before .before .before .before .args .file .now) (c .before .before .before .before .before .before .before .before .before .before .before .args .at) _ (c .before .before .before .side .result) (c .before .side2 .result) (sym (c .before .before .before .before .before .before .before .before .read .ensures) ∙ c .before .before .before .before .before .before .maybe .given .1) (c .before .before .before .side .ensures) (c .before .side2 .ensures)
+returns c =
+    let at-side = c .before .before .before in
+    let at-maybe = at-side .before .before .before in
+    let at-read = at-maybe .before .before in
+    let at-start = at-read .before .before .before in
+    plunge-read (at-start .args .file .now) (at-start .args .at) _ (at-side .side .result) (c .before .side2 .result)
+    (sym (at-read .read .ensures) ∙ at-maybe .maybe .given .1) (at-side .side .ensures) (c .before .side2 .ensures)
 
 returns-2 : tie.Need-returns-2
-returns-2 c = plunge-none (c .before .before .before .before .before .args .file .now) (c .before .before .before .before .before .args .at) (sym (c .before .before .read .ensures) ∙ c .enum-told .given .1)
+returns-2 c =
+    let at-start = c .before .before .before .before .before in
+    plunge-none (at-start .args .file .now) (at-start .args .at)
+    (sym (c .before .before .read .ensures) ∙ c .enum-told .given .1)
 
 pub plunge-at-spec : {M : Type 1} → statement M
 plunge-at-spec =

@@ -11,10 +11,20 @@ is-side-requires-2 : tie.Need-is-side-requires-2
 is-side-requires-2 c κs = search needs
 
 returns : tie.Need-returns
-returns c = simp (sym (c .before .before .before .is-side .ensures) ∙ c .before .before .if1 .taken, sym (c .before .is-side2 .ensures) ∙ c .if2 .taken)
+returns c =
+    let at-is-side = c .before .before .before in
+    simp (
+      sym (at-is-side .is-side .ensures) ∙ c .before .before .if1 .taken,
+      sym (c .before .is-side2 .ensures) ∙ c .if2 .taken,
+    )
 
 returns-2 : tie.Need-returns-2
-returns-2 c = simp (sym (c .before .before .before .is-side .ensures) ∙ c .before .before .if1 .taken, sym (c .before .is-side2 .ensures) ∙ c .if2 .left)
+returns-2 c =
+    let at-is-side = c .before .before .before in
+    simp (
+      sym (at-is-side .is-side .ensures) ∙ c .before .before .if1 .taken,
+      sym (c .before .is-side2 .ensures) ∙ c .if2 .left,
+    )
 
 returns-3 : tie.Need-returns-3
 returns-3 c = simp (sym (c .before .is-side .ensures) ∙ c .if1 .left)

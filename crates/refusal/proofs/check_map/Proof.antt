@@ -20,7 +20,8 @@ returns-2 : tie.Need-returns-2
 returns-2 c = simp (c .before .match .keys2) (c .check-sides2 .ensures)
 
 returns-3 : tie.Need-returns-3
-returns-3 c = simp (ne-eqb _ _ (c .before .match .rest .0 .1), ne-eqb _ _ (c .before .match .rest .1)) (c .refuse .ensures)
+returns-3 c =
+    simp (ne-eqb _ _ (c .before .match .rest .0 .1), ne-eqb _ _ (c .before .match .rest .1)) (c .refuse .ensures)
 
 pub check-map-spec : {M : Type 1} → statement M
 check-map-spec =

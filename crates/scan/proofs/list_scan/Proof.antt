@@ -42,16 +42,19 @@ same-length-3 c = search needs
 
 returns : tie.Need-returns
 returns c =
-    let a = c .before .before .before .before .before .before .before .before .before .before .before .before .before .before .before .before .before .before .args in
-    let q = c .before .before .before .before .before .before .list in
+    let at-list = c .before .before .before .before .before .before in
+    let at-depths = at-list .before .before .before .before in
+    let at-byte-in3 = at-depths .before in
+    let at-byte-in2 = at-byte-in3 .before in
+    let at-byte-in = at-byte-in2 .before in
+    let at-start = at-byte-in .before .before .before .before .before in
+    let a = at-start .args in
+    let q = at-list .list in
     same-four
-    (λ m k w h. ListCall m k w h (a .out .now) (q .last .1 .1 .1 .1 .0) (a .a .now) (q .last .1 .1 .1 .1 .1 .0) (a .b .now) (q .last .1 .1 .1 .1 .1 .1 .0) (q .result))
-    _ _ _ _ _ _ _ _
-    (c .before .before .before .before .before .before .before .before .before .before .depths .ensures)
-    (c .before .before .before .before .before .before .before .before .before .before .before .before .before .«byte-in» .ensures)
-    (c .before .before .before .before .before .before .before .before .before .before .before .before .«byte-in2» .ensures)
-    (c .before .before .before .before .before .before .before .before .before .before .before .«byte-in3» .ensures)
-    (q .ensures)
+    (λ m k w h. ListCall m k w h (a .out .now) (q .last .1 .1 .1 .1 .0) (a .a .now) (q .last .1 .1 .1 .1 .1 .0) (a .b .now)
+    (q .last .1 .1 .1 .1 .1 .1 .0) (q .result))
+    _ _ _ _ _ _ _ _ (at-depths .depths .ensures) (at-byte-in .«byte-in» .ensures) (at-byte-in2 .«byte-in2» .ensures)
+    (at-byte-in3 .«byte-in3» .ensures) (q .ensures)
 
 pub list-scan-spec : {M : Type 1} → statement M
 list-scan-spec =

@@ -15,7 +15,9 @@ returns : tie.Need-returns
 returns c = search needs
 
 slice-aggregate-write-all : tie.Need-slice-aggregate-write-all
-slice-aggregate-write-all c = omega (arith, length-take-le (c .before .before .before .args .used) (c .before .before .before .args .page .now) (omega arith))
+slice-aggregate-write-all c =
+    let at-start = c .before .before .before in
+    omega (arith, length-take-le (at-start .args .used) (at-start .args .page .now) (omega arith))
 
 write-all-requires : tie.Need-write-all-requires
 write-all-requires c κs = search needs

@@ -32,14 +32,19 @@ same-length c = search needs
 
 -- src/lib.rt:50:1
 returns : tie.Need-returns
-returns c = let a = c .before .before .before .before .before .before .before .before .before .before .before .before .before .before .before .before .before .args in
-    let p = c .before .before .before .before .before .before .before .before .before .before .before .before .before .before .«put-plate-word» in
-    let q = c .before .before .before .before .before .before .before .before .before .before .«put-word» in
-    let s = c .before .before .before .before .before .before .«put-word2» in
+returns c =
+    let at-put-word2 = c .before .before .before .before .before .before in
+    let at-put-word = at-put-word2 .before .before .before .before in
+    let at-put-plate-word = at-put-word .before .before .before .before in
+    let at-start = at-put-plate-word .before .before .before in
+    let a = at-start .args in
+    let p = at-put-plate-word .«put-plate-word» in
+    let q = at-put-word .«put-word» in
+    let s = at-put-word2 .«put-word2» in
     let t = c .before .before .«put-word3» in (
-      four-texts (a .page .now) 0 plateWord (word (a .kind) 32) (word (a .width) 32) (word (a .height) 10)
-          (p .last .0) (q .last .0) (s .last .0) (t .last .0) (p .result) (q .result) (s .result) (t .result)
-          (p .ensures .0) (q .ensures .0) (s .ensures .0) (t .ensures .0) (omega arith) (omega arith) (omega arith),
+      four-texts (a .page .now) 0 plateWord (word (a .kind) 32) (word (a .width) 32) (word (a .height) 10) (p .last .0)
+          (q .last .0) (s .last .0) (t .last .0) (p .result) (q .result) (s .result) (t .result) (p .ensures .0)
+          (q .ensures .0) (s .ensures .0) (t .ensures .0) (omega arith) (omega arith) (omega arith),
       omega arith,
     )
 

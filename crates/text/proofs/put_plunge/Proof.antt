@@ -31,14 +31,20 @@ same-length c = search needs
 
 -- src/lib.rt:61:1
 returns : tie.Need-returns
-returns c = let a = c .before .before .before .before .before .before .before .before .before .before .before .before .before .before .before .before .before .args in
-    let p = c .before .before .before .before .before .before .before .before .before .before .before .before .before .before .«put-word» in
-    let q = c .before .before .before .before .before .before .before .before .before .before .«put-word2» in
-    let s = c .before .before .before .before .before .before .«put-word3» in
+returns c =
+    let at-put-word3 = c .before .before .before .before .before .before in
+    let at-put-word2 = at-put-word3 .before .before .before .before in
+    let at-put-word = at-put-word2 .before .before .before .before in
+    let at-start = at-put-word .before .before .before in
+    let a = at-start .args in
+    let p = at-put-word .«put-word» in
+    let q = at-put-word2 .«put-word2» in
+    let s = at-put-word3 .«put-word3» in
     let t = c .before .before .«put-word4» in (
-      four-texts (a .page .now) (a .at) (word (a .reach) 32) (word (a .row) 32) (word (a .column) 32) (word (a .depth) 10)
-          (p .last .0) (q .last .0) (s .last .0) (t .last .0) (p .result) (q .result) (s .result) (t .result)
-          (p .ensures .0) (q .ensures .0) (s .ensures .0) (t .ensures .0) (omega arith) (omega arith) (omega arith),
+      four-texts (a .page .now) (a .at) (word (a .reach) 32) (word (a .row) 32) (word (a .column) 32)
+          (word (a .depth) 10) (p .last .0) (q .last .0) (s .last .0) (t .last .0) (p .result) (q .result) (s .result)
+          (t .result) (p .ensures .0) (q .ensures .0) (s .ensures .0) (t .ensures .0) (omega arith) (omega arith)
+          (omega arith),
       omega arith,
     )
 

@@ -34,7 +34,9 @@ same-length c = search needs
 
 -- src/lib.rt:21:9
 returns : tie.Need-returns
-returns c = let a = c .before .args in (word-1 (a .page .now) (a .at) (a .n) (a .mark) (omega arith) (omega arith), omega arith)
+returns c =
+    let a = c .before .args in
+    (word-1 (a .page .now) (a .at) (a .n) (a .mark) (omega arith) (omega arith), omega arith)
 
 -- src/lib.rt:24:20
 add-page-3 : tie.Need-add-page-3
@@ -74,7 +76,9 @@ same-length-2 c = search needs
 
 -- src/lib.rt:27:9
 returns-2 : tie.Need-returns-2
-returns-2 c = let a = c .before .before .args in (word-2 (a .page .now) (a .at) (a .n) (a .mark) (omega arith) (omega arith) (omega arith), omega arith)
+returns-2 c =
+    let a = c .before .before .args in
+    (word-2 (a .page .now) (a .at) (a .n) (a .mark) (omega arith) (omega arith) (omega arith), omega arith)
 
 -- src/lib.rt:29:16
 add-page-7 : tie.Need-add-page-7
@@ -126,7 +130,9 @@ same-length-3 c = search needs
 
 -- src/lib.rt:14:1
 returns-3 : tie.Need-returns-3
-returns-3 c = let a = c .before .before .args in (word-3 (a .page .now) (a .at) (a .n) (a .mark) (omega arith) (omega arith) (omega arith), omega arith)
+returns-3 c =
+    let a = c .before .before .args in
+    (word-3 (a .page .now) (a .at) (a .n) (a .mark) (omega arith) (omega arith) (omega arith), omega arith)
 
 pub put-word-spec : {M : Type 1} → statement M
 put-word-spec =

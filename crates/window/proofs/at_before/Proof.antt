@@ -26,10 +26,24 @@ sub-row : tie.Need-sub-row
 sub-row c = search needs
 
 returns-3 : tie.Need-returns-3
-returns-3 c = simp (before-is, ne-eqb _ _ (c .before .before .if1 .left), ne-eqb _ _ (c .before .if2 .left), le-ltb _ _ (c .if3 .taken))
+returns-3 c =
+    simp (
+      before-is,
+      ne-eqb _ _ (c .before .before .if1 .left),
+      ne-eqb _ _ (c .before .if2 .left),
+      le-ltb _ _ (c .if3 .taken),
+    )
 
 returns-4 : tie.Need-returns-4
-returns-4 c = simp (before-is, ne-eqb _ _ (c .before .before .before .if1 .left), ne-eqb _ _ (c .before .before .if2 .left), lt-ltb _ _ (c .before .if3 .left), le-ltb _ _ (c .if4 .taken))
+returns-4 c =
+    let at-if1 = c .before .before .before in
+    simp (
+      before-is,
+      ne-eqb _ _ (at-if1 .if1 .left),
+      ne-eqb _ _ (c .before .before .if2 .left),
+      lt-ltb _ _ (c .before .if3 .left),
+      le-ltb _ _ (c .if4 .taken),
+    )
 
 mul-number : tie.Need-mul-number
 mul-number c = omega (arith, place-below {k = 65535} (c .if4 .left) (c .before .if3 .left) (omega arith) (omega arith))
@@ -38,13 +52,35 @@ add-number : tie.Need-add-number
 add-number c = omega (arith, place-below {k = 65535} (c .if4 .left) (c .before .if3 .left) (omega arith) (omega arith))
 
 returns-5 : tie.Need-returns-5
-returns-5 c = let a = c .before .before .before .before .before .before .before .args in simp (before-is, ne-eqb _ _ (c .before .before .before .before .if1 .left), ne-eqb _ _ (c .before .before .before .if2 .left), lt-ltb _ _ (c .before .before .if3 .left), lt-ltb _ _ (c .before .if4 .left), List·getD-eq-default (a .map .now) 0 (c .if5 .taken))
+returns-5 c =
+    let at-if2 = c .before .before .before in
+    let at-if1 = at-if2 .before in
+    let at-start = at-if1 .before .before .before in
+    let a = at-start .args in
+    simp (
+      before-is,
+      ne-eqb _ _ (at-if1 .if1 .left),
+      ne-eqb _ _ (at-if2 .if2 .left),
+      lt-ltb _ _ (c .before .before .if3 .left),
+      lt-ltb _ _ (c .before .if4 .left),
+      List·getD-eq-default (a .map .now) 0 (c .if5 .taken),
+    )
 
 shared-slice-read-result : tie.Need-shared-slice-read-result
 shared-slice-read-result c = search needs
 
 returns-6 : tie.Need-returns-6
-returns-6 c = simp (before-is, ne-eqb _ _ (c .before .before .before .before .before .if1 .left), ne-eqb _ _ (c .before .before .before .before .if2 .left), lt-ltb _ _ (c .before .before .before .if3 .left), lt-ltb _ _ (c .before .before .if4 .left))
+returns-6 c =
+    let at-if3 = c .before .before .before in
+    let at-if2 = at-if3 .before in
+    let at-if1 = at-if2 .before in
+    simp (
+      before-is,
+      ne-eqb _ _ (at-if1 .if1 .left),
+      ne-eqb _ _ (at-if2 .if2 .left),
+      lt-ltb _ _ (at-if3 .if3 .left),
+      lt-ltb _ _ (c .before .before .if4 .left),
+    )
 
 pub at-before-spec : {M : Type 1} → statement M
 at-before-spec =

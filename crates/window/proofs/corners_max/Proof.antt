@@ -40,7 +40,9 @@ higher-requires-3 : tie.Need-higher-requires-3
 higher-requires-3 c κs = search needs
 
 returns : tie.Need-returns
-returns c = c .higher3 .ensures ∙ ap₂ max (c .before .before .before .before .higher .ensures) (c .before .higher2 .ensures)
+returns c =
+    let at-higher = c .before .before .before .before in
+    c .higher3 .ensures ∙ ap₂ max (at-higher .higher .ensures) (c .before .higher2 .ensures)
 
 pub corners-max-spec : {M : Type 1} → statement M
 corners-max-spec =

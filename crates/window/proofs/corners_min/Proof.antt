@@ -40,7 +40,9 @@ lower-requires-3 : tie.Need-lower-requires-3
 lower-requires-3 c κs = search needs
 
 returns : tie.Need-returns
-returns c = c .lower3 .ensures ∙ ap₂ min (c .before .before .before .before .lower .ensures) (c .before .lower2 .ensures)
+returns c =
+    let at-lower = c .before .before .before .before in
+    c .lower3 .ensures ∙ ap₂ min (at-lower .lower .ensures) (c .before .lower2 .ensures)
 
 pub corners-min-spec : {M : Type 1} → statement M
 corners-min-spec =

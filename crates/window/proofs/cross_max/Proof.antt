@@ -49,7 +49,11 @@ higher-requires-4 : tie.Need-higher-requires-4
 higher-requires-4 c κs = search needs
 
 returns : tie.Need-returns
-returns c = c .higher4 .ensures ∙ ap₂ max (c .before .before .before .before .before .before .higher .ensures) (c .before .higher3 .ensures ∙ ap₂ max (c .before .before .before .higher2 .ensures) refl)
+returns c =
+    let at-higher2 = c .before .before .before in
+    let at-higher = at-higher2 .before .before .before in
+    c .higher4 .ensures ∙ ap₂ max (at-higher .higher .ensures)
+    (c .before .higher3 .ensures ∙ ap₂ max (at-higher2 .higher2 .ensures) refl)
 
 pub cross-max-spec : {M : Type 1} → statement M
 cross-max-spec =

@@ -49,7 +49,11 @@ lower-requires-4 : tie.Need-lower-requires-4
 lower-requires-4 c κs = search needs
 
 returns : tie.Need-returns
-returns c = c .lower4 .ensures ∙ ap₂ min (c .before .before .before .before .before .before .lower .ensures) (c .before .lower3 .ensures ∙ ap₂ min (c .before .before .before .lower2 .ensures) refl)
+returns c =
+    let at-lower2 = c .before .before .before in
+    let at-lower = at-lower2 .before .before .before in
+    c .lower4 .ensures ∙ ap₂ min (at-lower .lower .ensures)
+    (c .before .lower3 .ensures ∙ ap₂ min (at-lower2 .lower2 .ensures) refl)
 
 pub cross-min-spec : {M : Type 1} → statement M
 cross-min-spec =

@@ -22,7 +22,11 @@ row-before-requires-3 : tie.Need-row-before-requires-3
 row-before-requires-3 c κs = search needs
 
 returns : tie.Need-returns
-returns c = let a = c .before .before .before .before .args in three (c .before .before .row-before .ensures) (c .before .row-before2 .ensures) (c .row-before3 .ensures) ∙ window-is (a .head) (a .map .now) (a .column) (a .row)
+returns c =
+    let at-start = c .before .before .before .before in
+    let a = at-start .args in
+    three (c .before .before .row-before .ensures) (c .before .row-before2 .ensures) (c .row-before3 .ensures) ∙
+    window-is (a .head) (a .map .now) (a .column) (a .row)
 
 pub window-at-spec : {M : Type 1} → statement M
 window-at-spec =

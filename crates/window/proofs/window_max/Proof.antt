@@ -28,7 +28,11 @@ returns : tie.Need-returns
 returns c = rw (c .before .enum-told .given .1) (c .cross-max .ensures ∙ cross-in-order of-max)
 
 returns-2 : tie.Need-returns-2
-returns-2 c = rw (c .before .before .before .enum-told2 .given .1) (c .higher .ensures ∙ ap₂ max (c .before .before .cross-max2 .ensures) (c .before .corners-max .ensures) ∙ nine-in-order of-max)
+returns-2 c =
+    let at-enum-told2 = c .before .before .before in
+    rw (at-enum-told2 .enum-told2 .given .1)
+    (c .higher .ensures ∙ ap₂ max (c .before .before .cross-max2 .ensures) (c .before .corners-max .ensures) ∙
+    nine-in-order of-max)
 
 pub window-max-spec : {M : Type 1} → statement M
 window-max-spec =

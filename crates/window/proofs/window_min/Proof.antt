@@ -28,7 +28,11 @@ returns : tie.Need-returns
 returns c = rw (c .before .enum-told .given .1) (c .cross-min .ensures ∙ cross-in-order of-min)
 
 returns-2 : tie.Need-returns-2
-returns-2 c = rw (c .before .before .before .enum-told2 .given .1) (c .lower .ensures ∙ ap₂ min (c .before .before .cross-min2 .ensures) (c .before .corners-min .ensures) ∙ nine-in-order of-min)
+returns-2 c =
+    let at-enum-told2 = c .before .before .before in
+    rw (at-enum-told2 .enum-told2 .given .1)
+    (c .lower .ensures ∙ ap₂ min (c .before .before .cross-min2 .ensures) (c .before .corners-min .ensures) ∙
+    nine-in-order of-min)
 
 pub window-min-spec : {M : Type 1} → statement M
 window-min-spec =

@@ -30,7 +30,9 @@ returns c =
     simp (← d .before .before .before .distance .ensures, le-leb _ _ (d .if1 .taken))
 
 returns-2 : tie.Need-returns-2
-returns-2 c = simp (← c .before .before .before .distance .ensures, lt-leb _ _ (c .if1 .left))
+returns-2 c =
+    let at-distance = c .before .before .before in
+    simp (← at-distance .distance .ensures, lt-leb _ _ (c .if1 .left))
 
 pub inside-spec : {M : Type 1} → statement M
 inside-spec = tie.close (tie.spec distance-requires cast-if1 add-if1 cast-if1-2 returns returns-2)

@@ -29,8 +29,10 @@ slice-aggregate-put-plunges c = search needs
 
 put-plunges-requires : tie.Need-put-plunges-requires
 put-plunges-requires c κs =
+    let at-answer = c .before .before .before in
+    let at-read = at-answer .before .before in
     let size = c .before .«large-buffer» .ensures in
-    let w = read-accepted _ _ _ (sym (c .before .before .before .answer .given .1) ∙ c .before .before .before .before .before .read .ensures) in
+    let w = read-accepted _ _ _ (sym (at-answer .answer .given .1) ∙ at-read .read .ensures) in
     (room-for-lines (c .before .«large-buffer» .result) size, w .verdict, w .plunges)
 
 array-share-prefix-page : tie.Need-array-share-prefix-page

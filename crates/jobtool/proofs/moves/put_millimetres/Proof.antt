@@ -22,7 +22,9 @@ same-length : tie.Need-same-length
 same-length c = search needs
 
 returns : tie.Need-returns
-returns c = counts (c .before .before .«put-number» .result) (c .before .before .«put-number» .last .1 .0) (omega (arith, c .before .before .«put-number» .ensures .put .inside))
+returns c =
+    counts (c .before .before .«put-number» .result) (c .before .before .«put-number» .last .1 .0)
+    (omega (arith, c .before .before .«put-number» .ensures .put .inside))
 
 pub put-millimetres-spec : {M : Type 1} → statement M
 put-millimetres-spec =

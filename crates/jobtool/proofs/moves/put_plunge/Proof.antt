@@ -28,7 +28,9 @@ returns : tie.Need-returns
 returns c = search needs
 
 returns-2 : tie.Need-returns-2
-returns-2 c = counts (c .before .before .before .before .before .args .at) (c .before .before .before .before .before .args .page .now) (omega arith)
+returns-2 c =
+    let at-start = c .before .before .before .before .before in
+    counts (at-start .args .at) (at-start .args .page .now) (omega arith)
 
 pub put-plunge-spec : {M : Type 1} → statement M
 put-plunge-spec =

@@ -7,7 +7,7 @@ use Rattle.jobtool.proofs.moves.put_plunges.Lts as lts
 use Rattle.jobtool.proofs.moves.put_plunge.Reads as put-plunge-reads
 use Rattle.text.proofs.make_room.Reads as make-room-reads
 use Prim.Native.Nat.{_-_, _≤_}
-use mathlib.Core.Path.{_≡_, refl}
+use mathlib.Core.Path.{_≡_}
 use native.Mathlib.Omega.{arith}
 use lib.ListN.{length}
 use Rattle.text.proofs.Lines.{counts}

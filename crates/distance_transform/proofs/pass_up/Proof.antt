@@ -1,0 +1,98 @@
+-- `pass_up` does so for every row, from the last on: the invariant is `UpTo` the row reached.
+use mathlib.Core.Path.{refl}
+use Prim.Native.Nat.{_-_}
+use native.Mathlib.Omega.{arith}
+use borrow.Author.Needs.{needs}
+use Rattle.row_arrays.proofs.Start.{row-end}
+use Rattle.distance_transform.proofs.Passes.{UpTo, up-none, up-more, up-all}
+use Rattle.distance_transform.proofs.pass_up.Statement.{statement}
+use Rattle.distance_transform.proofs.pass_up.Tie as tie
+
+abbrev Inv-loop : tie.InvT-loop
+Inv-loop head out₀ row₀ below₀ width y₀ out row below y = UpTo head y out₀ row below out
+
+abbrev μ-loop : tie.MeasureT-loop
+μ-loop head out₀ row₀ below₀ width y₀ out row below y = y
+
+cast-width : tie.Need-cast-width Inv-loop μ-loop
+cast-width c = search needs
+
+cast-y : tie.Need-cast-y Inv-loop μ-loop
+cast-y c = search needs
+
+sub-y : tie.Need-sub-y Inv-loop μ-loop
+sub-y c = let at-start = c .before .before .before in at-start .pre .0 .tall
+
+mul-load-run : tie.Need-mul-load-run Inv-loop μ-loop
+mul-load-run c =
+    let s = c .before .before .before .before in
+    omega (
+      arith,
+      s .pre,
+      row-end (s .args .head .width) (s .args .head .height - 1) (s .args .head .height) (omega (arith, s .pre .0 .tall)),
+    )
+
+load-run-requires : tie.Need-load-run-requires Inv-loop μ-loop
+load-run-requires c κs =
+    let s = c .before .before .before .before .before in (
+      omega (
+        arith,
+        s .pre,
+        row-end (s .args .head .width) (s .args .head .height - 1) (s .args .head .height) (omega (arith, s .pre .0 .tall)),
+      ),
+      s .pre .0 .narrow,
+      refl,
+    )
+
+loop-holds : tie.Need-loop-holds Inv-loop μ-loop
+loop-holds c =
+    let at-start = c .before .before .before .before .before .before in
+    up-none _ _ _ (at-start .pre .0 .tall) (c .load-run .ensures)
+
+sub-y-2 : tie.Need-sub-y-2 Inv-loop μ-loop
+sub-y-2 c = omega arith
+
+row-up-requires : tie.Need-row-up-requires Inv-loop μ-loop
+row-up-requires c κs =
+    let at-loop = c .before .before .before .before in
+    let at-start = at-loop .before .before .before .before .before .before .before in
+    let d = at-loop .loop .inv in
+    let g = at-start .pre in
+    (g .0, omega (arith, g .1, d .kept .same), omega (arith, d .within), d .row-margins, d .below-margins)
+
+loop-less : tie.Need-loop-less Inv-loop μ-loop
+loop-less c =
+    let at-loop-test = c .before .before .before .before .before .before in
+    omega (arith, at-loop-test .loop-test .taken)
+
+loop-again : tie.Need-loop-again Inv-loop μ-loop
+loop-again c =
+    let at-loop-test = c .before .before .before .before .before .before in
+    let at-loop = at-loop-test .before in
+    up-more _ _ _ _ _ _ _ _ _ _ (omega (arith, at-loop-test .loop-test .taken)) (at-loop .loop .inv)
+    (c .before .before .row-up .ensures)
+
+same-length : tie.Need-same-length Inv-loop μ-loop
+same-length c = c .before .loop .inv .kept .same
+
+returns : tie.Need-returns Inv-loop μ-loop
+returns c = up-all _ _ _ _ _ _ (c .before .loop .inv) (c .loop-test .left)
+
+pub pass-up-spec : {M : Type 1} → statement M
+pass-up-spec =
+    tie.close
+    (tie.spec
+    Inv-loop
+    μ-loop
+    cast-width
+    cast-y
+    sub-y
+    mul-load-run
+    load-run-requires
+    loop-holds
+    sub-y-2
+    row-up-requires
+    loop-less
+    loop-again
+    same-length
+    returns)

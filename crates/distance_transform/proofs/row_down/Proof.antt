@@ -1,0 +1,54 @@
+-- `row_down` spreads a row over the rows up to it: along itself, then from the row above.
+use native.Mathlib.Omega.{arith}
+use borrow.Author.Needs.{needs}
+use Rattle.row_arrays.proofs.Start.{row-end}
+use Rattle.distance_transform.proofs.Passes.{row-down}
+use Rattle.distance_transform.proofs.row_down.Statement.{statement}
+use Rattle.distance_transform.proofs.row_down.Tie as tie
+
+cast-width : tie.Need-cast-width
+cast-width c = search needs
+
+load-row-requires : tie.Need-load-row-requires
+load-row-requires c κs = search needs
+
+propagate-row-requires : tie.Need-propagate-row-requires
+propagate-row-requires c κs = search needs
+
+mul-merge-row : tie.Need-mul-merge-row
+mul-merge-row c =
+    let s = c .before .before .before .before .before .before .before .before in
+    omega (arith, s .pre .0, row-end (s .args .head .width) (s .args .y) (s .args .head .height) (s .pre .1))
+
+merge-row-requires : tie.Need-merge-row-requires
+merge-row-requires c κs =
+    let at-propagate-row = c .before .before .before in
+    let s = at-propagate-row .before .before .before .before .before .before .before .before in (
+      omega (arith, s .pre .0, row-end (s .args .head .width) (s .args .y) (s .args .head .height) (s .pre .1)),
+      s .pre .0 .sides .narrow,
+      s .pre .4 .margins .size,
+      at-propagate-row .propagate-row .ensures .row-margins .size,
+    )
+
+same-length : tie.Need-same-length
+same-length c = search needs
+
+returns : tie.Need-returns
+returns c =
+    let at-propagate-row = c .before .before .before .before .before .before in
+    let at-load-row = at-propagate-row .before .before .before in
+    let at-start = at-load-row .before .before .before .before .before in
+    row-down _ _ _ _ _ _ _ _ _ _ _ (at-start .pre .0 .sides .narrow) (at-load-row .load-row .ensures)
+    (at-propagate-row .propagate-row .ensures) (at-start .pre .4) (c .before .before .merge-row .ensures)
+
+pub row-down-spec : {M : Type 1} → statement M
+row-down-spec =
+    tie.close
+    (tie.spec
+    cast-width
+    load-row-requires
+    propagate-row-requires
+    mul-merge-row
+    merge-row-requires
+    same-length
+    returns)

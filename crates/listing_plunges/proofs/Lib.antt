@@ -1,0 +1,4 @@
+pub mod Plunges
+pub mod Marks
+pub mod Erosions
+pub mod Runs

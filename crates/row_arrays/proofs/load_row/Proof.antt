@@ -1,0 +1,103 @@
+-- `load_row` leaves the start of a row: seeds with the row's floor, then both ends raised to the border's number.
+use mathlib.Core.Path.{ap, _∙_}
+use Prim.Native.Nat.{_-_}
+use native.Mathlib.Omega.{arith}
+use borrow.Author.Needs.{needs}
+use Rattle.row_arrays.proofs.Start.{row-end, loaded}
+use Rattle.row_arrays.proofs.load_row.Statement.{statement}
+use Rattle.row_arrays.proofs.load_row.Tie as tie
+
+cast-width : tie.Need-cast-width
+cast-width c = search needs
+
+seed-of-requires : tie.Need-seed-of-requires
+seed-of-requires c κs = search needs
+
+less-requires : tie.Need-less-requires
+less-requires c κs = search needs
+
+cast-floor-of : tie.Need-cast-floor-of
+cast-floor-of c = search needs
+
+floor-of-requires : tie.Need-floor-of-requires
+floor-of-requires c κs = search needs
+
+mul-load-run : tie.Need-mul-load-run
+mul-load-run c =
+    let at-start = c .before .before .before .before .before .before in
+    let a = at-start .args in
+    omega (arith, at-start .pre, row-end (a .head .width) (a .y) (a .head .height) (at-start .pre .2))
+
+load-run-requires : tie.Need-load-run-requires
+load-run-requires c κs =
+    let at-start = c .before .before .before .before .before .before .before in
+    let a = at-start .args in (
+      omega (arith, at-start .pre, row-end (a .head .width) (a .y) (a .head .height) (at-start .pre .2)),
+      at-start .pre .0 .narrow,
+      at-start .pre .3 .size,
+    )
+
+element-copy-out-higher : tie.Need-element-copy-out-higher
+element-copy-out-higher c = search needs
+
+higher-requires : tie.Need-higher-requires
+higher-requires c κs = search needs
+
+element-write-row : tie.Need-element-write-row
+element-write-row c = search needs
+
+add-higher : tie.Need-add-higher
+add-higher c = search needs
+
+sub-higher : tie.Need-sub-higher
+sub-higher c = search needs
+
+element-copy-out-higher-2 : tie.Need-element-copy-out-higher-2
+element-copy-out-higher-2 c = search needs
+
+higher-requires-2 : tie.Need-higher-requires-2
+higher-requires-2 c κs = search needs
+
+add-row : tie.Need-add-row
+add-row c = search needs
+
+sub-row : tie.Need-sub-row
+sub-row c = search needs
+
+element-write-row-2 : tie.Need-element-write-row-2
+element-write-row-2 c = search needs
+
+returns : tie.Need-returns
+returns c =
+    let at-load-run = c .before .before .before .before in
+    let at-floor-of = at-load-run .before .before in
+    let at-less = at-floor-of .before .before in
+    let at-seed-of = at-less .before in
+    let s = at-seed-of .before .before .before in
+    loaded (s .args .head) (s .args .seeds) (s .args .map .now) (s .args .y) (s .pre .0) (s .pre .2) _
+    (at-less .less .ensures ∙ ap (λ v. v - 1) (at-seed-of .seed-of .ensures)) _ _ _ _ _ (s .pre .3)
+    (at-floor-of .floor-of .ensures) (at-load-run .load-run .ensures) (c .before .before .higher .ensures)
+    (c .higher2 .ensures)
+
+pub load-row-spec : {M : Type 1} → statement M
+load-row-spec =
+    tie.close
+    (tie.spec
+    cast-width
+    seed-of-requires
+    less-requires
+    cast-floor-of
+    floor-of-requires
+    mul-load-run
+    load-run-requires
+    element-copy-out-higher
+    higher-requires
+    element-write-row
+    add-higher
+    sub-higher
+    element-copy-out-higher-2
+    higher-requires-2
+    add-row
+    sub-row
+    element-write-row-2
+    returns)

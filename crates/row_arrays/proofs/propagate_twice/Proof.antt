@@ -1,0 +1,25 @@
+-- `spread_twice` widens what is known by four: a doubling into the spare row and a doubling back.
+use borrow.Author.Needs.{needs}
+use Rattle.row_arrays.proofs.Rows.{widened-twice}
+use Rattle.row_arrays.proofs.propagate_twice.Statement.{statement}
+use Rattle.row_arrays.proofs.propagate_twice.Tie as tie
+
+propagate-step-requires : tie.Need-propagate-step-requires
+propagate-step-requires c κs = search needs
+
+mul-propagate-step : tie.Need-mul-propagate-step
+mul-propagate-step c = search needs
+
+propagate-step-requires-2 : tie.Need-propagate-step-requires-2
+propagate-step-requires-2 c κs = search needs
+
+returns : tie.Need-returns
+returns c =
+    let at-propagate-step = c .before .before .before in
+    let at-start = at-propagate-step .before .before .before in
+    widened-twice _ _ _ _ _ _ (at-start .pre .2) (at-start .pre .3) (at-propagate-step .propagate-step .ensures)
+    (c .propagate-step2 .ensures) (at-start .pre .0)
+
+pub propagate-twice-spec : {M : Type 1} → statement M
+propagate-twice-spec =
+    tie.close (tie.spec propagate-step-requires mul-propagate-step propagate-step-requires-2 returns)

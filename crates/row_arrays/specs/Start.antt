@@ -1,0 +1,23 @@
+-- The numbers that a plate's rows start from, before they spread: seeds of a map, and what the cells off the plate bring to its border.
+use mathlib.Core.Bool.{Bool, true, cond}
+use mathlib.Core.List.{List}
+use Prim.Native.Nat.{ℕ, _+_, _-_, max}
+use lib.Dec.{eqb, ltb}
+use Rattle.geometry.specs.declared.Head.{Head}
+use Rattle.geometry.specs.Plane.{cell}
+use Rattle.geometry.specs.Plate.{at}
+use Rattle.row_arrays.specs.declared.Seeds.{Seeds}
+use Rattle.row_arrays.specs.declared.Seeds.the-variants.{Walls, Numbers}
+
+-- a cell's own number at the start: 255 at a wall, or the map's own
+abbrev pub seed : Seeds → ℕ → ℕ
+seed (Walls t) n = cond (ltb n t) 255 0
+seed Numbers n = n
+
+abbrev pub onBorder : Head → ℕ → ℕ → Bool
+onBorder p x y =
+    cond (eqb x 0) true (cond (eqb (x + 1) (p .width)) true (cond (eqb y 0) true (eqb (y + 1) (p .height))))
+
+-- with the cells off the plate counted too: what they have, less the one step to the plate's border
+abbrev pub start : Head → Seeds → List ℕ → ℕ → ℕ → ℕ
+start p s m x y = max (seed s (at p m (cell x y))) (cond (onBorder p x y) (seed s 0 - 1) 0)

@@ -1,0 +1,4 @@
+// Every map call on long and large plates.
+fn main() {
+    test_map_records::run_input();
+}

@@ -1,0 +1,151 @@
+// Runs the motion call on files, plunge numbers and scales that its input describes, and prints what comes back, floats to the last bit.
+use libc::STDIN_FILENO;
+use motion::Motion;
+use motion::MotionAnswer;
+use motion::Motions;
+use motion::Scale;
+use test_io::byte_at;
+use test_io::print_text;
+use test_io::two_words;
+use test_io::word;
+ghost use mathlib.Core.Path.{_≡_};
+ghost use Prim.Native.Nat.{_≤_};
+ghost use lib.Ieee.{binary64, nanBits};
+
+// The bytes of a record before its file: the file's length, the plunge's number, and three floats.
+const FIXED: usize = 34;
+
+// ---- reading
+
+// Eight bytes as a number, the high byte first.
+fn number_at(s: &[u8], at: usize) -> u64
+    requires { ⌜ at ≤ 1000 ⌝ }
+{
+    let a = two_words(
+        word(byte_at(s, at), byte_at(s, at + 1)),
+        word(byte_at(s, at + 2), byte_at(s, at + 3)),
+    );
+    let b = two_words(
+        word(byte_at(s, at + 4), byte_at(s, at + 5)),
+        word(byte_at(s, at + 6), byte_at(s, at + 7)),
+    );
+    (a as u64) * 4294967296 + (b as u64)
+}
+
+// Whether bits are a NaN's: all ones in the exponent's field, and some one below it.
+fn is_nan(bits: u64) -> bool
+    ensures { λ r. ⌜ r ≡ nanBits binary64 bits ⌝ }
+{
+    if bits % 9223372036854775808 / 4503599627370496 == 2047 {
+        bits % 4503599627370496 != 0
+    } else {
+        false
+    }
+}
+
+// The float with these bits. The language makes no NaN of bits: each of them is 0 divided by 0.
+fn float_of(bits: u64) -> f64 {
+    if is_nan(bits) {
+        0.0 / 0.0
+    } else {
+        f64::from_bits(bits)
+    }
+}
+
+fn scale_in(s: &[u8]) -> Scale {
+    Scale {
+        half_pitch: float_of(number_at(s, 10)),
+        column_offset: float_of(number_at(s, 18)),
+        row_offset: float_of(number_at(s, 26)),
+    }
+}
+
+// How many bytes a record takes, its file included.
+fn taken(s: &[u8]) -> usize {
+    FIXED + (word(byte_at(s, 0), byte_at(s, 1)) as usize)
+}
+
+// ---- printing
+
+fn print_float(x: f64) {
+    if x == x {
+        test_io::print_bits(f64::to_bits(x));
+    } else {
+        print_text(b" nan");
+    }
+}
+
+fn print_motion(motion: Motion) {
+    match motion {
+        Motion::Change(width) => {
+            print_text(b"change");
+            print_float(width);
+        }
+        Motion::Stay => print_text(b"stay"),
+        Motion::Travel(column, row) => {
+            print_text(b"travel");
+            print_float(column);
+            print_float(row);
+        }
+        Motion::Sink(depth) => {
+            print_text(b"sink");
+            print_float(depth);
+        }
+    }
+}
+
+fn print_motions(motions: Motions) {
+    let first = motions.first;
+    let second = motions.second;
+    let third = motions.third;
+    print_motion(first);
+    print_text(b" ");
+    print_motion(second);
+    print_text(b" ");
+    print_motion(third);
+    print_text(b"\n");
+}
+
+// ---- records
+
+fn run_call(file: &[u8], i: usize, scale: Scale) {
+    let answer = motion::plunge_motions(file, i, scale);
+    match answer {
+        MotionAnswer::Moves(motions) => print_motions(motions),
+        MotionAnswer::NoMoves(refusal) => test_io::print_refusal(refusal),
+    }
+}
+
+// Runs the record at the start of some bytes and gives the bytes it takes; 0 if it is not whole.
+fn run_first(s: &[u8]) -> usize {
+    let count = taken(s);
+    if count < FIXED {
+        return 0;
+    }
+    if s.len() < count {
+        return 0;
+    }
+    run_call(&s[FIXED..count], number_at(s, 2) as usize, scale_in(s));
+    count
+}
+
+// One record after the other; it ends at one that is not whole.
+fn run_records(s: &[u8]) {
+    let mut at = 0;
+    while at < s.len() {
+        let count = run_first(&s[at..]);
+        if count == 0 {
+            return;
+        }
+        if s.len() - at < count {
+            return;
+        }
+        at += count;
+    }
+}
+
+fn main() {
+    let mut input = io::large_buffer();
+    let n = io::read_full(STDIN_FILENO, &mut input);
+    run_records(&input[..n]);
+}

@@ -1,4 +1,0 @@
-pub mod Plunges
-pub mod Marks
-pub mod Climbs
-pub mod Runs
