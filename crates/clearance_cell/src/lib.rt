@@ -19,20 +19,14 @@ pub enum CellAnswer {
     NotCleared(Refusal),
 }
 
-fn larger(a: usize, b: usize) -> usize
-    ensures { λ r. ⌜ r ≡ max a b ⌝ }
-{
-    if a < b { b } else { a }
-}
-
 // The distance from a cell of the plate to the nearest cell off it.
 fn edge_distance(width: usize, height: usize, column: usize, row: usize) -> usize
     requires { ⌜ (column < width) × (row < height) ⌝ }
     ensures { λ r. ⌜ r ≡ edgeDistance width height column row ⌝ }
 {
-    refusal::shorter(
-        refusal::shorter(column + 1, width - column),
-        refusal::shorter(row + 1, height - row),
+    numbers::smaller(
+        numbers::smaller(column + 1, width - column),
+        numbers::smaller(row + 1, height - row),
     )
 }
 
@@ -68,7 +62,7 @@ fn nearest_in_row(
 {
     match kind {
         Kind::Diamond => row_gap(map, level, place, best - away) + away,
-        Kind::Square => larger(row_gap(map, level, place, best), away),
+        Kind::Square => numbers::larger(row_gap(map, level, place, best), away),
     }
 }
 

@@ -49,15 +49,15 @@ module _ (k w h : ℕ) (wrong : Bool) (m out : List ℕ) where
   abbrev said : Verdict
   said = firstMet (mapTrials k w h wrong (length m ∷ length out ∷ []))
 
-  -- it is what is said of the shorter one
-  shorter-said : (n : ℕ) → n ≡ min (length m) (length out) → firstMet (mapTrials k w h wrong (n ∷ [])) ≡ said
-  shorter-said n e =
+  -- it is what is said of the smaller one
+  smaller-said : (n : ℕ) → n ≡ min (length m) (length out) → firstMet (mapTrials k w h wrong (n ∷ [])) ≡ said
+  smaller-said n e =
       ap (λ (i : ℕ). firstMet (mapTrials k w h wrong (i ∷ []))) e
       ∙ ap (λ (b : Bool). firstMet (trial (badKind k) 1 0 ∷ trial (badSides w h) 2 0 ∷ trial wrong 3 0 ∷ trial b 4 0 ∷ []))
       (sym (shortest-two (h * w) (length m) (length out) []))
 
   pub by-shorter : (n : ℕ) → n ≡ min (length m) (length out) → (v : Verdict) → v ≡ firstMet (mapTrials k w h wrong (n ∷ [])) → v ≡ said
-  by-shorter n e v g = g ∙ shorter-said n e
+  by-shorter n e v g = g ∙ smaller-said n e
 
   pub answered-refused : (r : Refusal) (new : List ℕ) → said ≡ Refused r → Answered said new out out (Refused r)
   answered-refused r new a = record { answer = sym a; bytes = ap (λ (u : Verdict). written u new out) (sym a) }
@@ -71,7 +71,7 @@ module _ (k w h : ℕ) (wrong : Bool) (m out : List ℕ) where
 
   module _ (a : said ≡ Accepted) where
     sound : Sound w h wrong (min (length m) (length out))
-    sound = map-sound k w h wrong (min (length m) (length out)) (shorter-said (min (length m) (length out)) (omega arith) ∙ a)
+    sound = map-sound k w h wrong (min (length m) (length out)) (smaller-said (min (length m) (length out)) (omega arith) ∙ a)
 
     plates : Plates (headOf k w h) m out
     plates =

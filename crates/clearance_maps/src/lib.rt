@@ -15,7 +15,7 @@ pub fn clearance_map(
 ) -> Verdict
     ensures { λ r. ⌜ ClearanceMap (now (relief .entry)) kind width height level (now (out .entry)) (now (out .exit)) r ⌝ }
 {
-    let shortest = refusal::shorter(relief.len(), out.len());
+    let shortest = numbers::smaller(relief.len(), out.len());
     let verdict = refusal::check_map(kind, width, height, level == 0, shortest);
     match verdict {
         Verdict::Accepted => {
@@ -56,7 +56,7 @@ pub fn axis_map(
 pub fn reconstruct(map: &[u8], kind: u8, width: u16, height: u16, out: &mut [u8]) -> Verdict
     ensures { λ r. ⌜ Reconstruction (now (map .entry)) kind width height (now (out .entry)) (now (out .exit)) r ⌝ }
 {
-    let shortest = refusal::shorter(map.len(), out.len());
+    let shortest = numbers::smaller(map.len(), out.len());
     let verdict = refusal::check_map(kind, width, height, false, shortest);
     match verdict {
         Verdict::Accepted => {

@@ -41,13 +41,6 @@ fn start_of(first: usize, last: usize, here: usize) -> usize
     if last == 0 { here } else { first }
 }
 
-// The larger of two numbers.
-fn larger(a: usize, b: usize) -> usize
-    ensures { λ r. ⌜ r ≡ max a b ⌝ }
-{
-    if a < b { b } else { a }
-}
-
 // For each reach the stretch from its first plunge to its last; gives back the largest reach.
 fn find_ranges(
     head: Head,
@@ -65,7 +58,7 @@ fn find_ranges(
         let reach = reach_at(head, file, count, i);
         first[reach] = start_of(first[reach], last[reach], i);
         last[reach] = i + 1;
-        top = larger(top, reach);
+        top = numbers::larger(top, reach);
         i += 1;
     }
     top

@@ -18,7 +18,7 @@ pub enum VolumeAnswer {
 fn shortest(relief: usize, out: usize, a: usize, b: usize) -> usize
     ensures { λ r. ⌜ r ≡ min (min (min relief out) a) b ⌝ }
 {
-    refusal::shorter(refusal::shorter(refusal::shorter(relief, out), a), b)
+    numbers::smaller(numbers::smaller(numbers::smaller(relief, out), a), b)
 }
 
 // Rung `number` of a relief, 1 to 120: at each cell the lowest depth within that distance. Refusals 1, 2, 3 and 4.

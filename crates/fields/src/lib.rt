@@ -7,13 +7,6 @@ ghost use lib.ListN.{length};
 ghost use Rattle.fields.specs.Fields.{headField, plungeField, endField};
 ghost use Rattle.fields.specs.Writing.{spliced};
 
-// The lowest byte of a number.
-fn low_byte(n: usize) -> u8
-    ensures { λ r. ⌜ r ≡ n % 256 ⌝ }
-{
-    (n % 256) as u8
-}
-
 // Writes the head's field to the first six bytes.
 pub fn put_head(out: &mut [u8], head: Head)
     requires { ⌜ (6 ≤ length (now out)) × (head .width < 256) × (head .height < 256) ⌝ }
@@ -52,8 +45,8 @@ pub fn put_end(out: &mut [u8], at: usize, number: usize)
     out[at] = 3;
     out[at + 1] = 0;
     out[at + 2] = 4;
-    out[at + 3] = low_byte(high / 256);
-    out[at + 4] = low_byte(high);
-    out[at + 5] = low_byte(low / 256);
-    out[at + 6] = low_byte(low);
+    out[at + 3] = numbers::low_byte(high / 256);
+    out[at + 4] = numbers::low_byte(high);
+    out[at + 5] = numbers::low_byte(low / 256);
+    out[at + 6] = numbers::low_byte(low);
 }

@@ -32,7 +32,7 @@ fn too_short() -> Refusal
 fn shortest(a: usize, b: usize, c: usize) -> usize
     ensures { λ r. ⌜ r ≡ min (min a b) c ⌝ }
 {
-    refusal::shorter(refusal::shorter(a, b), c)
+    numbers::smaller(numbers::smaller(a, b), c)
 }
 
 // The relief that a file draws, into out. The file's refusals, then 4.

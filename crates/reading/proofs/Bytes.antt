@@ -14,8 +14,9 @@ use Rattle.geometry.specs.declared.Kind.{Kind}
 use Rattle.geometry.specs.declared.Kind.the-variants.{Diamond, Square}
 use Rattle.geometry.specs.declared.Head.{Head}
 use Rattle.geometry.specs.declared.Plunge.{Plunge}
-use Rattle.geometry.specs.Forms.{kindByte}
-use Rattle.refusal.specs.Refusals.{badKind}
+use Rattle.geometry.specs.declared.MaybeKind.the-variants.{OfKind, NoKind}
+use Rattle.geometry.specs.Forms.{kindByte, kindOf}
+use Rattle.refusal.specs.Refusals.{badKind, isNone, kindNamed}
 use Rattle.fields.specs.Fields.{two, four, headField, plungeField, endField}
 use Rattle.reading.specs.Reading.{lengthAt, opens, headIn, isPlunge, plungeAt, isEnd, numberAt}
 
@@ -64,10 +65,11 @@ module _ (f : List ℕ) where
 
 -- ---- fields read off: the head, a plunge, the end
 
-cond-kind : (k : ℕ) → badKind k ≡ false → kindByte (cond (eqb k 4) Diamond Square) ≡ k
+cond-kind : (k : ℕ) → badKind k ≡ false → kindByte (kindNamed (kindOf k)) ≡ k
 cond-kind k = go (eqb k 4) (eqb k 8) refl refl
   where
-    go : (x y : Bool) → eqb k 4 ≡ x → eqb k 8 ≡ y → cond x false (cond y false true) ≡ false → kindByte (cond x Diamond Square) ≡ k
+    go : (x y : Bool) → eqb k 4 ≡ x → eqb k 8 ≡ y → isNone (cond x (OfKind Diamond) (cond y (OfKind Square) NoKind)) ≡ false
+        → kindByte (kindNamed (cond x (OfKind Diamond) (cond y (OfKind Square) NoKind))) ≡ k
     go true y e g n = sym (eqb-true k 4 e)
     go false true e g n = sym (eqb-true k 8 g)
     go false false e g n = let z : _≡_ {A = ℕ} 0 1 = cc in absurd (omega arith)
@@ -152,7 +154,7 @@ written-end f at n rest e h =
     let b = byte-there f at (endField n ++ rest) e in
     (opens-there f at (endField n ++ rest) e 3 4, (λ i. 65536 * (256 * b 3 i + b 4 i) + (256 * b 5 i + b 6 i)) ∙ four-number n h)
 
-kind-back : (k : Kind) → cond (eqb (kindByte k) 4) Diamond Square ≡ k
+kind-back : (k : Kind) → kindNamed (kindOf (kindByte k)) ≡ k
 kind-back Diamond = refl
 kind-back Square = refl
 

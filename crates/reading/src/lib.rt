@@ -37,20 +37,7 @@ pub enum Step {
     Fault(Refusal),
 }
 
-// A refusal with its place.
-fn refuse(number: u8, place: usize) -> Verdict
-    ensures { λ r. ⌜ r ≡ Verdict.Refused (record { number = number; place = place }) ⌝ }
-{
-    Verdict::Refused(Refusal { number, place })
-}
-
-// A byte as a length, and as a side, a column or a row.
-fn wide(byte: u8) -> usize
-    ensures { λ r. ⌜ r ≡ byte ⌝ }
-{
-    byte as usize
-}
-
+// A byte as a side, a column or a row.
 fn side(byte: u8) -> u16
     ensures { λ r. ⌜ r ≡ byte ⌝ }
 {
@@ -65,7 +52,7 @@ fn opens(file: &[u8], at: usize, tag: u8, size: usize) -> bool
     ensures { λ r. ⌜ r ≡ opens tag size (now (file .entry)) at ⌝ }
 {
     if file[at] == tag {
-        return 256 * wide(file[at + 1]) + wide(file[at + 2]) == size;
+        return 256 * numbers::wide(file[at + 1]) + numbers::wide(file[at + 2]) == size;
     }
     false
 }
@@ -88,15 +75,15 @@ fn check_open(file: &[u8], at: usize, tag: u8, other: u8, size: usize) -> Verdic
 {
     let left = file.len() - at;
     if left < 3 {
-        return refuse(6, at);
+        return refusal::refuse(6, at);
     }
     if opens_either(file, at, tag, other, size) {
         if left - 3 < size {
-            return refuse(6, at);
+            return refusal::refuse(6, at);
         }
         return Verdict::Accepted;
     }
-    refuse(7, at)
+    refusal::refuse(7, at)
 }
 
 // ---- the head
@@ -154,13 +141,13 @@ fn check_plunge(file: &[u8], head: Head, at: usize) -> Verdict
         MaybePlunge::OfPlunge(q) => {
             if q.fits_plate(head) {
                 if file[at + 6] == 0 {
-                    return refuse(9, at);
+                    return refusal::refuse(9, at);
                 }
                 return Verdict::Accepted;
             }
-            refuse(8, at)
+            refusal::refuse(8, at)
         }
-        MaybePlunge::NoPlunge => refuse(8, at),
+        MaybePlunge::NoPlunge => refusal::refuse(8, at),
     }
 }
 
@@ -171,8 +158,8 @@ fn number_at(file: &[u8], at: usize) -> usize
     requires { ⌜ at + 7 ≤ length (now file) ⌝ }
     ensures { λ r. ⌜ r ≡ numberAt (now (file .entry)) at ⌝ }
 {
-    let high = 256 * wide(file[at + 3]) + wide(file[at + 4]);
-    let low = 256 * wide(file[at + 5]) + wide(file[at + 6]);
+    let high = 256 * numbers::wide(file[at + 3]) + numbers::wide(file[at + 4]);
+    let low = 256 * numbers::wide(file[at + 5]) + numbers::wide(file[at + 6]);
     65536 * high + low
 }
 
@@ -184,11 +171,11 @@ fn check_end(file: &[u8], at: usize, n: usize) -> Verdict
     if number_at(file, at) == n {
         let next = at + 7;
         if next < file.len() {
-            return refuse(11, next);
+            return refusal::refuse(11, next);
         }
         return Verdict::Accepted;
     }
-    refuse(10, at)
+    refusal::refuse(10, at)
 }
 
 // ---- the file

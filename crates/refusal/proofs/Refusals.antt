@@ -1,5 +1,5 @@
 -- Laws of refusals: which is given by the tests that led to it, what acceptance says, and the shortest buffer stands for all.
-use mathlib.Core.Path.{_≡_, refl, ap}
+use mathlib.Core.Path.{_≡_, refl, sym, ap}
 use mathlib.Core.Bool.{Bool, true, false, cond, not}
 use mathlib.Core.List.{List, [], _∷_}
 use Prim.Native.Nat.{ℕ, _*_, _≤_, _<_, min}
@@ -7,10 +7,15 @@ use native.Mathlib.Omega.{arith}
 use native.Mathlib.Nat.{mul-le-mul}
 use borrow.Author.Tests.{ltb-true, ltb-false, lt-ltb, le-ltb, leb-true}
 use lib.Dec.{leb, ltb}
+use Rattle.geometry.specs.declared.Kind.{Kind}
+use Rattle.geometry.specs.declared.Head.{Head}
+use Rattle.geometry.specs.declared.MaybeKind.{MaybeKind}
+use Rattle.geometry.specs.declared.MaybeKind.the-variants.{OfKind, NoKind}
 use Rattle.geometry.specs.Lists.{any}
+use Rattle.geometry.specs.Forms.{kindOf}
 use Rattle.refusal.specs.declared.Verdict.{Verdict}
 use Rattle.refusal.specs.declared.Verdict.the-variants.{Accepted, Refused}
-use Rattle.refusal.specs.Refusals.{firstMet, isSide, largestSide, isErosionNumber, largestErosion, badKind, badSides, short, sideTrials, mapTrials}
+use Rattle.refusal.specs.Refusals.{trial, firstMet, isSide, largestSide, isErosionNumber, largestErosion, isNone, badKind, badSides, short, sideTrials, mapTrials, kindNamed, headOf}
 
 -- two sides of 16 bits have a product that a length can be compared with
 pub area-fits : (w h : ℕ) → w < 65536 → h < 65536 → h * w < 4294967296
@@ -19,7 +24,7 @@ area-fits w h a b =
     let d : h ≤ 65535 = omega arith in
     omega (arith, mul-le-mul d c)
 
-abbrev refused : ℕ → Verdict
+abbrev pub refused : ℕ → Verdict
 refused n = Refused (record { number = n; place = 0 })
 
 -- the first met, by the tests that were made
@@ -50,6 +55,17 @@ shortest-two a m n more = go (ltb m a) (ltb n a) refl refl
     go true y e g = let l : min m n < a = omega (arith, ltb-true m a e) in rw (lt-ltb _ _ l)
     go false true e g = let l : min m n < a = omega (arith, ltb-true n a g) in rw (lt-ltb _ _ l)
     go false false e g = let l : a ≤ min m n = omega (arith, ltb-false m a e, ltb-false n a g) in rw (le-ltb _ _ l)
+
+-- a byte that names a kind; one that names none
+module _ (k w h : ℕ) (wrong : Bool) (lengths : List ℕ) where
+  pub kind-passes : (kd : Kind) → kindOf k ≡ OfKind kd → firstMet (mapTrials k w h wrong lengths) ≡ firstMet (sideTrials w h wrong lengths)
+  kind-passes kd e = ap (λ (m : MaybeKind). firstMet (trial (isNone m) 1 0 ∷ sideTrials w h wrong lengths)) e
+
+  pub kind-refused : kindOf k ≡ NoKind → firstMet (mapTrials k w h wrong lengths) ≡ refused 1
+  kind-refused e = ap (λ (m : MaybeKind). firstMet (trial (isNone m) 1 0 ∷ sideTrials w h wrong lengths)) e
+
+pub head-named : (k w h : ℕ) (m : MaybeKind) → kindOf k ≡ m → record { kind = kindNamed m; width = w; height = h } ≡ headOf k w h
+head-named k w h m e = ap (λ (n : MaybeKind). record { kind = kindNamed n; width = w; height = h }) (sym e)
 
 -- what an accepted call knows of its arguments
 pub record Sound (w h : ℕ) (wrong : Bool) (n : ℕ) : Type 0 where

@@ -5,9 +5,13 @@ use mathlib.Core.List.{List, [], _∷_, _++_}
 use Prim.Native.Nat.{ℕ, _*_}
 use lib.Dec.{leb, ltb, eqb}
 use lib.ListN.{length, drop}
-use Rattle.geometry.specs.declared.Kind.the-variants.{Diamond, Square}
+use Rattle.geometry.specs.declared.Kind.{Kind}
+use Rattle.geometry.specs.declared.Kind.the-variants.{Square}
+use Rattle.geometry.specs.declared.MaybeKind.{MaybeKind}
+use Rattle.geometry.specs.declared.MaybeKind.the-variants.{OfKind, NoKind}
 use Rattle.geometry.specs.declared.Head.{Head}
 use Rattle.geometry.specs.Lists.{any}
+use Rattle.geometry.specs.Forms.{kindOf}
 use Rattle.refusal.specs.declared.Verdict.{Verdict}
 use Rattle.refusal.specs.declared.Verdict.the-variants.{Accepted, Refused}
 
@@ -40,9 +44,13 @@ largestErosion = 120
 abbrev pub isErosionNumber : ℕ → Bool
 isErosionNumber n = cond (leb 1 n) (leb n largestErosion) false
 
--- "1: kind not 4 or 8"
+abbrev pub isNone : MaybeKind → Bool
+isNone (OfKind kd) = false
+isNone NoKind = true
+
+-- "1: kind not 4 or 8": the byte names no kind
 abbrev pub badKind : ℕ → Bool
-badKind k = cond (eqb k 4) false (cond (eqb k 8) false true)
+badKind k = isNone (kindOf k)
 
 -- "2: width or height not 1 to 240"
 abbrev pub badSides : ℕ → ℕ → Bool
@@ -60,9 +68,14 @@ sideTrials w h wrong lengths =
 abbrev pub mapTrials : ℕ → ℕ → ℕ → Bool → List ℕ → List Trial
 mapTrials k w h wrong lengths = trial (badKind k) 1 0 ∷ sideTrials w h wrong lengths
 
+-- the kind that was named; where none was, a call is refused and nothing is said by it
+abbrev pub kindNamed : MaybeKind → Kind
+kindNamed (OfKind kd) = kd
+kindNamed NoKind = Square
+
 -- the plate that a kind's byte and two sides describe
 abbrev pub headOf : ℕ → ℕ → ℕ → Head
-headOf k w h = record { kind = cond (eqb k 4) Diamond Square; width = w; height = h }
+headOf k w h = record { kind = kindNamed (kindOf k); width = w; height = h }
 
 -- what an output holds at exit: the answer's bytes, then what stood there before; unchanged on a refusal
 abbrev pub written : Verdict → List ℕ → List ℕ → List ℕ

@@ -4,7 +4,6 @@ use geometry::Kind;
 use geometry::MaybeKind;
 ghost use mathlib.Core.Path.{_≡_};
 ghost use mathlib.Core.List.{[], _∷_};
-ghost use Prim.Native.Nat.{min};
 ghost use Rattle.refusal.specs.Refusals.{isSide, badSides, isErosionNumber, headOf, firstMet, sideTrials, mapTrials};
 
 // A number of document 01's table, and a place.
@@ -38,10 +37,11 @@ pub fn is_erosion_number(n: u16) -> bool
     if 1 <= n { n <= LARGEST_EROSION } else { false }
 }
 
-fn refuse(number: u8) -> Verdict
-    ensures { λ r. ⌜ r ≡ Verdict.Refused (record { number = number; place = 0 }) ⌝ }
+// A refusal, as a verdict.
+pub fn refuse(number: u8, place: usize) -> Verdict
+    ensures { λ r. ⌜ r ≡ Verdict.Refused (record { number = number; place = place }) ⌝ }
 {
-    Verdict::Refused(Refusal { number, place: 0 })
+    Verdict::Refused(Refusal { number, place })
 }
 
 fn bad_sides(width: u16, height: u16) -> bool
@@ -61,13 +61,13 @@ pub fn check_sides(width: u16, height: u16, wrong: bool, shortest: usize) -> Ver
     ensures { λ r. ⌜ r ≡ firstMet (sideTrials width height wrong (shortest ∷ [])) ⌝ }
 {
     if bad_sides(width, height) {
-        return refuse(2);
+        return refuse(2, 0);
     }
     if wrong {
-        return refuse(3);
+        return refuse(3, 0);
     }
     if shortest < (height as usize) * (width as usize) {
-        return refuse(4);
+        return refuse(4, 0);
     }
     Verdict::Accepted
 }
@@ -76,10 +76,10 @@ pub fn check_sides(width: u16, height: u16, wrong: bool, shortest: usize) -> Ver
 pub fn check_map(kind: u8, width: u16, height: u16, wrong: bool, shortest: usize) -> Verdict
     ensures { λ r. ⌜ r ≡ firstMet (mapTrials kind width height wrong (shortest ∷ [])) ⌝ }
 {
-    match kind {
-        4 => check_sides(width, height, wrong, shortest),
-        8 => check_sides(width, height, wrong, shortest),
-        _ => refuse(1),
+    let maybe = Kind::of_byte(kind);
+    match maybe {
+        MaybeKind::OfKind(_named) => check_sides(width, height, wrong, shortest),
+        MaybeKind::NoKind => refuse(1, 0),
     }
 }
 
@@ -87,23 +87,17 @@ pub fn check_map(kind: u8, width: u16, height: u16, wrong: bool, shortest: usize
 pub fn head_of(kind: u8, width: u16, height: u16) -> Head
     ensures { λ r. ⌜ r ≡ headOf kind width height ⌝ }
 {
-    match kind {
-        4 => Head {
-            kind: Kind::Diamond,
+    let maybe = Kind::of_byte(kind);
+    match maybe {
+        MaybeKind::OfKind(named) => Head {
+            kind: named,
             width,
             height,
         },
-        _ => Head {
+        MaybeKind::NoKind => Head {
             kind: Kind::Square,
             width,
             height,
         },
     }
-}
-
-// The smaller of two lengths.
-pub fn shorter(a: usize, b: usize) -> usize
-    ensures { λ r. ⌜ r ≡ min a b ⌝ }
-{
-    if a < b { a } else { b }
 }

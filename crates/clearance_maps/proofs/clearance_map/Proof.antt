@@ -15,10 +15,10 @@ said c =
     let at-start = c .before .before .before .before in
     let s = at-start .args in
     by-shorter (s .kind) (s .width) (s .height) (eqb (s .level) 0) (s .relief .now) (s .out .now) _
-    (c .before .shorter .ensures) _ (c .check-map .ensures)
+    (c .before .smaller .ensures) _ (c .check-map .ensures)
 
-shorter-requires : tie.Need-shorter-requires
-shorter-requires c κs = search needs
+smaller-requires : tie.Need-smaller-requires
+smaller-requires c κs = search needs
 
 check-map-requires : tie.Need-check-map-requires
 check-map-requires c κs = search needs
@@ -67,7 +67,7 @@ pub clearance-map-spec : {M : Type 1} → statement M
 clearance-map-spec =
     tie.close
     (tie.spec
-    shorter-requires
+    smaller-requires
     check-map-requires
     enum-told
     head-of-requires

@@ -14,11 +14,11 @@ said : (c : tie.After-check-map) → let given = c .before .before .before .befo
 said c =
     let at-start = c .before .before .before .before in
     let s = at-start .args in
-    by-shorter (s .kind) (s .width) (s .height) false (s .map .now) (s .out .now) _ (c .before .shorter .ensures) _
+    by-shorter (s .kind) (s .width) (s .height) false (s .map .now) (s .out .now) _ (c .before .smaller .ensures) _
     (c .check-map .ensures)
 
-shorter-requires : tie.Need-shorter-requires
-shorter-requires c κs = search needs
+smaller-requires : tie.Need-smaller-requires
+smaller-requires c κs = search needs
 
 check-map-requires : tie.Need-check-map-requires
 check-map-requires c κs = search needs
@@ -66,7 +66,7 @@ pub reconstruct-spec : {M : Type 1} → statement M
 reconstruct-spec =
     tie.close
     (tie.spec
-    shorter-requires
+    smaller-requires
     check-map-requires
     enum-told
     head-of-requires
