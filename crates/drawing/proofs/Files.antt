@@ -31,11 +31,12 @@ use Rattle.buffers.proofs.Fill.{row-under}
 use Rattle.refusal.specs.Sides.{Sides}
 use Rattle.reading.specs.declared.MaybePlunge.{MaybePlunge}
 use Rattle.reading.specs.declared.MaybePlunge.the-variants.{OfPlunge, NoPlunge}
-use Rattle.reading.specs.Reading.{place, plungesUpTo}
+use Rattle.reading.specs.Reading.{plungesUpTo}
 use Rattle.reading.specs.Steps.{plungeIf}
 use Rattle.drawing.specs.Levels.{drawnFrom, centredDepth}
 use Rattle.drawing.specs.Files.{plunge, Drawable, reaches, Ranges, centreAt, Of, Raised}
 use Rattle.drawing.proofs.Levels.{Room, room, le-deepest, deepest-le, placed-here, here-placed, drawn-from-zero, drawn-from-none, drawn-from-step, drawn-from-off, drawn-from-west, drawn-from-east, drawn-from-north, drawn-from-south}
+use Rattle.fields.specs.Fields.{place}
 
 -- ---- a plunge of a file
 
@@ -50,11 +51,11 @@ module _ (p : Head) (n : ℕ) (f : List ℕ) (sides : Sides p) (d : Drawable p n
   centre-within = let a : plunge f i .row < p .height = omega (arith, fit .south) in let b : plunge f i .column < p .width =
       omega (arith, fit .east) in digits-lt a b
 
-  whole : plungeIf f (place i) ≡ OfPlunge (plunge f i)
+  whole : plungeIf f (place p i) ≡ OfPlunge (plunge f i)
   whole = rw (le-leb _ _ reach-small)
 
   -- the plunge that was read is the file's
-  pub told : (m : MaybePlunge) (q : Plunge) → m ≡ plungeIf f (place i) → m ≡ OfPlunge q → q ≡ plunge f i
+  pub told : (m : MaybePlunge) (q : Plunge) → m ≡ plungeIf f (place p i) → m ≡ OfPlunge q → q ≡ plunge f i
   told m q e g = ap (λ (m : MaybePlunge). or-else m q) (sym g ∙ e ∙ whole)
     where
       or-else : MaybePlunge → Plunge → Plunge
@@ -64,7 +65,7 @@ module _ (p : Head) (n : ℕ) (f : List ℕ) (sides : Sides p) (d : Drawable p n
   pub centre-told : (q : Plunge) → q ≡ plunge f i → centreAt p q < area p
   centre-told q e = subst (λ (q : Plunge). centreAt p q < area p) (sym e) centre-within
 
-  pub told-none : (m : MaybePlunge) → m ≡ plungeIf f (place i) → m ≡ NoPlunge → ⊥
+  pub told-none : (m : MaybePlunge) → m ≡ plungeIf f (place p i) → m ≡ NoPlunge → ⊥
   told-none m e g = let z : _≡_ {A = ℕ} 0 1 = ap number (sym g ∙ e ∙ whole) in omega arith
     where
       number : MaybePlunge → ℕ

@@ -1,4 +1,4 @@
--- Drawing a plunge file by levels: what is asked of the file, which of its plunges have a reach, and what placing some of them leaves in a map.
+-- Serves proofs: drawing a plunge file by levels: what is asked of the file, which of its plunges have a reach, and what placing some of them leaves in a map.
 use mathlib.Core.Path.{_≡_}
 use mathlib.Core.Logic.{_⊎_}
 use mathlib.Core.Bool.{true}
@@ -9,15 +9,16 @@ use Rattle.geometry.specs.declared.Head.{Head}
 use Rattle.geometry.specs.declared.Plunge.{Plunge}
 use Rattle.geometry.specs.Forms.{largestReach}
 use Rattle.geometry.specs.Plunges.{fitsPlate}
-use Rattle.reading.specs.Reading.{plungeAt, place}
+use Rattle.fields.specs.Fields.{place}
+use Rattle.reading.specs.Reading.{headIn, plungeAt}
 
 -- plunge i of a file
 abbrev pub plunge : List ℕ → ℕ → Plunge
-plunge f i = plungeAt f (place i)
+plunge f i = plungeAt f (place (headIn f) i)
 
 -- a file that holds n plunges after its head, each with its ball on the plate
 pub record Drawable (p : Head) (n : ℕ) (f : List ℕ) : Type 0 where
-  pub room : place n ≤ length f
+  pub room : place p n ≤ length f
   pub fits : (i : ℕ) → i < n → fitsPlate p (plunge f i) ≡ true
 
 -- how many reaches there are, from 0 to the largest

@@ -9,17 +9,17 @@ use Rattle.geometry.specs.declared.Kind.the-variants.{Diamond, Square}
 use Rattle.geometry.specs.declared.Head.{Head}
 use Rattle.geometry.specs.declared.Plunge.{Plunge}
 use Rattle.geometry.specs.Forms.{kindByte}
-use Rattle.fields.specs.Fields.{headField, plungeField, plungeFields, endField, fileLength, encoded}
+use Rattle.fields.specs.Fields.{plungeBytes, fileLength, headField, plungeField, plungeFields, endField, encoded}
 
 pub plungeFields-append : (qs os : List Plunge) → plungeFields (qs ++ os) ≡ plungeFields qs ++ plungeFields os
 plungeFields-append [] os = refl
 plungeFields-append (q ∷ qs) os = rw (plungeFields-append qs os)
 
-pub plungeFields-length : (qs : List Plunge) → length (plungeFields qs) ≡ 7 * length qs
+pub plungeFields-length : (qs : List Plunge) → length (plungeFields qs) ≡ plungeBytes * length qs
 plungeFields-length [] = refl
 plungeFields-length (q ∷ qs) = omega (arith, plungeFields-length qs)
 
-pub encoded-length : (p : Head) (qs : List Plunge) → length (encoded p qs) ≡ fileLength (length qs)
+pub encoded-length : (p : Head) (qs : List Plunge) → length (encoded p qs) ≡ fileLength p (length qs)
 unfolding encoded
 encoded-length p qs =
     omega (arith, length-append (headField p ++ plungeFields qs) (endField (length qs)), length-append (headField p) (plungeFields qs), plungeFields-length qs)

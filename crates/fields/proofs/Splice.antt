@@ -9,7 +9,7 @@ use lib.ListN.{length, take, drop, set, length-append, length-drop, take-append-
 use lib.Seq.{sets-eq, take-at, drop-at, drop-drop, length-take-le}
 use Rattle.geometry.specs.declared.Head.{Head}
 use Rattle.geometry.specs.Forms.{kindByte}
-use Rattle.fields.specs.Fields.{headField, endField}
+use Rattle.fields.specs.Fields.{headTag, headSize, headBytes, plungeBytes, endTag, endSize, headField, endField}
 use Rattle.fields.specs.Writing.{spliced}
 
 pub splice-nil : (old : List ℕ) (at : ℕ) → spliced old at [] ≡ old
@@ -58,15 +58,16 @@ splice-take old at bs h =
 
 -- ---- stores in a row
 
-pub six : (l : List ℕ) (a b c d e f : ℕ) → 6 ≤ length l → set (set (set (set (set (set l 0 a) 1 b) 2 c) 3 d) 4 e) 5 f ≡ spliced l 0 (a ∷ b ∷ c ∷ d ∷ e ∷ f ∷ [])
+pub six : (l : List ℕ) (a b c d e f : ℕ) → headBytes ≤ length l
+    → set (set (set (set (set (set l 0 a) 1 b) 2 c) 3 d) 4 e) 5 f ≡ spliced l 0 (a ∷ b ∷ c ∷ d ∷ e ∷ f ∷ [])
 six l a b c d e f h = sets-eq (a ∷ b ∷ c ∷ d ∷ e ∷ f ∷ []) l 0 (omega arith)
 
 -- a head's field, its kind's byte by what it is equal to
-pub six-head : (l : List ℕ) (p : Head) (k : ℕ) → 6 ≤ length l → k ≡ kindByte (p .kind)
-    → set (set (set (set (set (set l 0 1) 1 0) 2 3) 3 k) 4 (p .width)) 5 (p .height) ≡ spliced l 0 (headField p)
-six-head l p k h e = rw e (six l 1 0 3 (kindByte (p .kind)) (p .width) (p .height) h)
+pub six-head : (l : List ℕ) (p : Head) (k : ℕ) → headBytes ≤ length l → k ≡ kindByte (p .kind)
+    → set (set (set (set (set (set l 0 headTag) 1 0) 2 headSize) 3 k) 4 (p .width)) 5 (p .height) ≡ spliced l 0 (headField p)
+six-head l p k h e = rw e (six l headTag 0 headSize (kindByte (p .kind)) (p .width) (p .height) h)
 
-module _ (l : List ℕ) (i : ℕ) (h : i + 7 ≤ length l) where
+module _ (l : List ℕ) (i : ℕ) (h : i + plungeBytes ≤ length l) where
   pub seven : (a b c d e f g : ℕ)
       → set (set (set (set (set (set (set l i a) (i + 1) b) (i + 2) c) (i + 3) d) (i + 4) e) (i + 5) f) (i + 6) g ≡ spliced l i (a ∷ b ∷ c ∷ d ∷ e ∷ f ∷ g ∷ [])
   seven a b c d e f g =
@@ -74,5 +75,5 @@ module _ (l : List ℕ) (i : ℕ) (h : i + 7 ≤ length l) where
 
   -- an end field, its four bytes by what they are equal to
   pub seven-end : (n a b c d : ℕ) → a ≡ n / 65536 / 256 % 256 → b ≡ n / 65536 % 256 → c ≡ n % 65536 / 256 % 256 → d ≡ n % 65536 % 256
-      → set (set (set (set (set (set (set l i 3) (i + 1) 0) (i + 2) 4) (i + 3) a) (i + 4) b) (i + 5) c) (i + 6) d ≡ spliced l i (endField n)
-  seven-end n a b c d x y z w = rw (x, y, z, w) (seven 3 0 4 (n / 65536 / 256 % 256) (n / 65536 % 256) (n % 65536 / 256 % 256) (n % 65536 % 256))
+      → set (set (set (set (set (set (set l i endTag) (i + 1) 0) (i + 2) endSize) (i + 3) a) (i + 4) b) (i + 5) c) (i + 6) d ≡ spliced l i (endField n)
+  seven-end n a b c d x y z w = rw (x, y, z, w) (seven endTag 0 endSize (n / 65536 / 256 % 256) (n / 65536 % 256) (n % 65536 / 256 % 256) (n % 65536 % 256))

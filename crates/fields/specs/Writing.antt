@@ -1,4 +1,4 @@
--- What a function that writes bytes at a place leaves of a buffer.
+-- To be believed: what a function that writes bytes at a place leaves of a buffer.
 use mathlib.Core.List.{List, _++_}
 use Prim.Native.Nat.{ℕ, _+_}
 use lib.ListN.{length, take, drop}

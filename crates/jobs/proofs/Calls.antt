@@ -23,11 +23,11 @@ use Rattle.refusal.proofs.Refusals.{shortest-two, same-verdict, map-sound}
 use Rattle.reading.proofs.Steps.{andThen, first-append}
 use Rattle.buffers.specs.Fill.{Mapped, PlateOnly}
 use Rattle.buffers.proofs.Fill.{mapped-bytes, surplus-drop}
-use Rattle.fields.specs.Fields.{encoded, fileLength}
+use Rattle.fields.specs.Fields.{encoded, fileLength, place}
 use Rattle.reading.specs.Reading.{IsReadable, fileTrials, headIn, plungesUpTo, total}
 use Rattle.reading.specs.declared.Job.{Job}
 use Rattle.reading.proofs.Readable.{readable-sound}
-use Rattle.reading.proofs.Answers.{after-file, file-fault, WasRead}
+use Rattle.reading.proofs.Answers.{after-file, file-fault}
 use Rattle.refusal.specs.Sides.{Sides}
 use Rattle.drawing.specs.Files.{Drawable}
 use Rattle.geometry.specs.Lists.{common}
@@ -37,6 +37,8 @@ use Rattle.listing.specs.Staging.{ListedInto}
 use Rattle.listing.specs.Answers.{roomTrials, listAnswer}
 use Rattle.jobs.specs.Calls.{relief, plateTrial, drawVerdict, Listing, listed, listVerdict, ListCall, tidiedPlunges, tidied, tidyVerdict, TidyCall, alike, checkVerdict, CheckCall}
 use Rattle.jobs.specs.Comparing.{Comparable, Compared}
+use Rattle.reading.specs.Steps.{JobOf}
+use Rattle.listing_plunges.specs.Listable.{Listable}
 
 -- ---- the plate's buffers
 
@@ -90,27 +92,27 @@ room-free n out = go (ltb (length out) n)
 pub listing-refused : (v : Verdict) (q : Refusal) (p : Head) (qs : List Plunge) (out a b : List ℕ) → v ≡ Refused q → Listing v p qs out out a a b b (Unlisted q)
 listing-refused v q p qs out a b e =
     record {
-      answer = sym (ap (λ (u : Verdict). listAnswer u qs) e);
+      answer = sym (ap (λ (u : Verdict). listAnswer u p qs) e);
       bytes = sym (ap (λ (u : Verdict). written u (encoded p qs) out) e);
       first = worked-none v (area p) a;
       second = worked-none v (area p) b;
     }
 
 pub listing-done : (v : Verdict) (p : Head) (qs : List Plunge) (out out′ a a′ b b′ : List ℕ) (r : ListAnswer)
-    → v ≡ firstMet (roomTrials (fileLength (length qs)) out)
-    → r ≡ listAnswer (firstMet (roomTrials (fileLength (length qs)) out)) qs
-    → out′ ≡ written (firstMet (roomTrials (fileLength (length qs)) out)) (encoded p qs) out → PlateOnly p a a′ → PlateOnly p b b′
+    → v ≡ firstMet (roomTrials (fileLength p (length qs)) out)
+    → r ≡ listAnswer (firstMet (roomTrials (fileLength p (length qs)) out)) p qs
+    → out′ ≡ written (firstMet (roomTrials (fileLength p (length qs)) out)) (encoded p qs) out → PlateOnly p a a′ → PlateOnly p b b′
     → Listing v p qs out out′ a a′ b b′ r
 listing-done v p qs out out′ a a′ b b′ r e h l x y =
     record {
-      answer = h ∙ sym (ap (λ (u : Verdict). listAnswer u qs) e);
+      answer = h ∙ sym (ap (λ (u : Verdict). listAnswer u p qs) e);
       bytes = l ∙ sym (ap (λ (u : Verdict). written u (encoded p qs) out) e);
       first = worked-free v p a a′ freed x;
       second = worked-free v p b b′ freed y;
     }
   where
     freed : free v ≡ true
-    freed = ap free e ∙ room-free (fileLength (length qs)) out
+    freed = ap free e ∙ room-free (fileLength p (length qs)) out
 
 -- ---- the relief that a file draws
 
@@ -170,14 +172,13 @@ pub check-fault : (f : List ℕ) (q : Refusal) (a b c : List ℕ) → firstMet (
 check-fault f q a b c e = check-refused f q a b c (file-fault f _ q e)
 
 -- of a file that was read
-module _ (f : List ℕ) (j : Job) (w : WasRead (firstMet (fileTrials f)) f j) where
+module _ (f : List ℕ) (j : Job) (w : JobOf f j) where
   -- what drawing asks
   pub draw-asks : Sides (j .head) × Drawable (j .head) (j .plunges) f
   draw-asks =
-      let s = readable-sound f (w .verdict) in
-      let sides : Sides (headIn f) = record { wide = s .wide; narrow = s .narrow; tall = s .tall; low = s .low } in
+      let s = readable-sound f (w .readable) in
       let drawable : Drawable (headIn f) (total f) f = record { room = omega (arith, s .room); fits = s .fits } in (
-        subst Sides (sym (w .head)) sides,
+        subst Sides (sym (w .head)) (s .sides),
         subst (λ (n : ℕ). Drawable (j .head) n f) (sym (w .plunges))
             (subst (λ (h : Head). Drawable h (total f) f) (sym (w .head)) drawable),
       )
@@ -194,13 +195,13 @@ module _ (f : List ℕ) (j : Job) (w : WasRead (firstMet (fileTrials f)) f j) wh
   pub draw-short : (out : List ℕ) (q : Refusal) → q ≡ record { number = 4; place = 0 } → length out < area (j .head)
       → Answered (drawVerdict f out) (relief f) out out (Refused q)
   draw-short out q e l = answered-refused (drawVerdict f out) q (relief f) out
-      (plate-fault f (length out ∷ []) [] (w .verdict) (short-of (length out ∷ []) (short-one (j .head .width) (j .head .height) (length out) l))
+      (plate-fault f (length out ∷ []) [] (w .readable) (short-of (length out ∷ []) (short-one (j .head .width) (j .head .height) (length out) l))
       ∙ sym (ap Refused e))
 
   pub draw-done : (out out′ : List ℕ) → area (j .head) ≤ length out → Mapped (j .head) (drawn (j .head .kind) (plungesUpTo (j .plunges) f)) out out′
       → Answered (drawVerdict f out) (relief f) out out′ Accepted
   draw-done out out′ l m =
-      let v : drawVerdict f out ≡ Accepted = no-fault f (length out ∷ []) [] (w .verdict)
+      let v : drawVerdict f out ≡ Accepted = no-fault f (length out ∷ []) [] (w .readable)
       (long-of (length out ∷ []) (long-one (j .head .width) (j .head .height) (length out) l)) in
       record {
         answer = sym v;
@@ -215,7 +216,7 @@ module _ (f : List ℕ) (j : Job) (w : WasRead (firstMet (fileTrials f)) f j) wh
 
     pub tidy-short : (q : Refusal) → q ≡ record { number = 4; place = 0 } → n < area (j .head) → TidyCall f out out a a b b c c (Unlisted q)
     tidy-short q g l = tidy-refused f q out a b c
-        (plate-fault f works _ (w .verdict) (short-of works (short-three (j .head .width) (j .head .height) (length a) (length b) (length c) n e l))
+        (plate-fault f works _ (w .readable) (short-of works (short-three (j .head .width) (j .head .height) (length a) (length b) (length c) n e l))
         ∙ sym (ap Refused g))
 
     pub works-long : area (j .head) ≤ n → short (headIn f .width) (headIn f .height) works ≡ false
@@ -226,18 +227,18 @@ module _ (f : List ℕ) (j : Job) (w : WasRead (firstMet (fileTrials f)) f j) wh
     tidy-done l out′ a′ b′ c′ r m d x y =
         record {
           list = listing-done v (headIn f) (tidiedPlunges f) out out′ a a′ b b′ r verdict
-              (into .answer ∙ ap (λ (qs : List Plunge). listAnswer (firstMet (roomTrials (fileLength (length qs)) out)) qs) lists)
-              (into .bytes ∙ ap (λ (qs : List Plunge). written (firstMet (roomTrials (fileLength (length qs)) out)) (encoded (headIn f) qs) out)
+              (into .answer ∙ ap (λ (qs : List Plunge). listAnswer (firstMet (roomTrials (fileLength (headIn f) (length qs)) out)) (headIn f) qs) lists)
+              (into .bytes ∙ ap (λ (qs : List Plunge). written (firstMet (roomTrials (fileLength (headIn f) (length qs)) out)) (encoded (headIn f) qs) out)
               lists) (moved a a′ x) (moved b b′ y);
-          third = worked-free v (headIn f) c c′ (ap free verdict ∙ room-free (fileLength (length (tidiedPlunges f))) out)
+          third = worked-free v (headIn f) c c′ (ap free verdict ∙ room-free (fileLength (headIn f) (length (tidiedPlunges f))) out)
               (moved c c′ (kept-mapped (j .head) _ c c′ m));
         }
       where
         v : Verdict
         v = tidyVerdict f out a b c
 
-        verdict : v ≡ firstMet (roomTrials (fileLength (length (tidiedPlunges f))) out)
-        verdict = no-fault f works _ (w .verdict) (works-long l)
+        verdict : v ≡ firstMet (roomTrials (fileLength (headIn f) (length (tidiedPlunges f))) out)
+        verdict = no-fault f works _ (w .readable) (works-long l)
 
         into : ListedInto (headIn f) c′ out out′ r
         into = subst (λ (h : Head). ListedInto h c′ out out′ r) (w .head) d
@@ -251,14 +252,14 @@ module _ (f : List ℕ) (j : Job) (w : WasRead (firstMet (fileTrials f)) f j) wh
     -- the check
     pub check-short : (q : Refusal) → q ≡ record { number = 4; place = 0 } → n < area (j .head) → CheckCall f a a b b c c (Refused q)
     check-short q g l = check-refused f q a b c
-        (plate-fault f works _ (w .verdict) (short-of works (short-three (j .head .width) (j .head .height) (length a) (length b) (length c) n e l))
+        (plate-fault f works _ (w .readable) (short-of works (short-three (j .head .width) (j .head .height) (length a) (length b) (length c) n e l))
         ∙ sym (ap Refused g))
 
     pub check-asks : area (j .head) ≤ n → ((i : ℕ) → getD f i 0 < 256) → (c′ : List ℕ)
         → Mapped (j .head) (drawn (j .head .kind) (plungesUpTo (j .plunges) f)) c c′ → Comparable (j .head) (j .plunges) f c′ a b
     check-asks l bs c′ m =
         record {
-          readable = w .verdict;
+          readable = w .readable;
           bytes = bs;
           head = w .head;
           count = w .plunges;
@@ -282,7 +283,7 @@ module _ (f : List ℕ) (j : Job) (w : WasRead (firstMet (fileTrials f)) f j) wh
         v = checkVerdict f a b c
 
         verdict : v ≡ firstMet (trial (not (alike f (tidied f))) 12 (common f (tidied f)) ∷ [])
-        verdict = no-fault f works _ (w .verdict) (works-long l)
+        verdict = no-fault f works _ (w .readable) (works-long l)
 
         freed : free v ≡ true
         freed = ap free verdict ∙ go (alike f (tidied f))
@@ -305,27 +306,31 @@ module _ (m : List ℕ) (k w h : ℕ) (out a b : List ℕ) (n : ℕ) (v : Verdic
       (λ (i : ℕ). short w h (i ∷ [])) (sym e))
       ∙ sym g
 
-  verdict : listVerdict m k w h out a b ≡ andThen v (firstMet (roomTrials (fileLength (length (listed m k w h))) out))
-  verdict = first-append (mapTrials k w h false (length m ∷ length a ∷ length b ∷ [])) (roomTrials (fileLength (length (listed m k w h))) out) ∙ ap
-      (λ (u : Verdict). andThen u (firstMet (roomTrials (fileLength (length (listed m k w h))) out))) judged
+  verdict : listVerdict m k w h out a b ≡ andThen v (firstMet (roomTrials (fileLength (headOf k w h) (length (listed m k w h))) out))
+  verdict = first-append (mapTrials k w h false (length m ∷ length a ∷ length b ∷ []))
+      (roomTrials (fileLength (headOf k w h) (length (listed m k w h))) out) ∙ ap
+      (λ (u : Verdict). andThen u (firstMet (roomTrials (fileLength (headOf k w h) (length (listed m k w h))) out))) judged
 
   pub list-refused : (q : Refusal) → v ≡ Refused q → ListCall m k w h out out a a b b (Unlisted q)
   list-refused q l = listing-refused (listVerdict m k w h out a b) q (headOf k w h) (listed m k w h) out a b
-      (verdict ∙ ap (λ (u : Verdict). andThen u (firstMet (roomTrials (fileLength (length (listed m k w h))) out))) l)
+      (verdict ∙ ap (λ (u : Verdict). andThen u (firstMet (roomTrials (fileLength (headOf k w h) (length (listed m k w h))) out))) l)
 
   -- what the listing asks
-  pub list-asks : v ≡ Accepted → (p : Head) → p ≡ headOf k w h → (1 ≤ p .width) × (p .width ≤ largestSide) × (p .height ≤ largestSide)
-      × (area p ≤ length m) × (area p ≤ length a) × (area p ≤ length b)
+  pub list-asks : v ≡ Accepted → (p : Head) → p ≡ headOf k w h → Listable p m a b
   list-asks l p i =
       let s = map-sound k w h false n (sym g ∙ l) in
-      subst (λ (q : Head). (1 ≤ q .width) × (q .width ≤ largestSide) × (q .height ≤ largestSide) × (area q ≤ length m) × (area q ≤ length a)
-      × (area q ≤ length b)) (sym i)
-      (s .wide, s .narrow, s .low, omega (arith, s .long), omega (arith, s .long), omega (arith, s .long))
+      subst (λ (q : Head). Listable q m a b) (sym i)
+      (record {
+        sides = record { wide = s .wide; narrow = s .narrow; tall = s .tall; low = s .low };
+        relief = omega (arith, s .long);
+        first = omega (arith, s .long);
+        second = omega (arith, s .long);
+      })
 
   pub list-done : v ≡ Accepted → (p : Head) → p ≡ headOf k w h → (out′ a′ b′ : List ℕ) (r : ListAnswer) → ListedInto p m out out′ r
       → PlateOnly p a a′ → PlateOnly p b b′ → ListCall m k w h out out′ a a′ b b′ r
   list-done l p i out′ a′ b′ r d x y =
       let into : ListedInto (headOf k w h) m out out′ r = subst (λ (q : Head). ListedInto q m out out′ r) i d in
       listing-done (listVerdict m k w h out a b) (headOf k w h) (listed m k w h) out out′ a a′ b b′ r
-      (verdict ∙ ap (λ (u : Verdict). andThen u (firstMet (roomTrials (fileLength (length (listed m k w h))) out))) l)
+      (verdict ∙ ap (λ (u : Verdict). andThen u (firstMet (roomTrials (fileLength (headOf k w h) (length (listed m k w h))) out))) l)
       (into .answer) (into .bytes) (subst (λ (q : Head). PlateOnly q a a′) i x) (subst (λ (q : Head). PlateOnly q b b′) i y)

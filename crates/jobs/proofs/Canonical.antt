@@ -24,11 +24,11 @@ use Rattle.theory.proofs.Canonical.{canonical-iff, canonical-draws, canonical-t
 use Rattle.refusal.specs.declared.Verdict.{Verdict}
 use Rattle.refusal.specs.declared.Verdict.the-variants.{Accepted, Refused}
 use Rattle.refusal.specs.Refusals.{trial, firstMet, largestErosion, written}
-use Rattle.fields.specs.Fields.{encoded, fileLength}
+use Rattle.fields.specs.Fields.{encoded, fileLength, place}
 use Rattle.fields.proofs.Encoding.{encoded-injective, encoded-length}
 use Rattle.reading.proofs.Answers.{after-file, file-read}
 use Rattle.reading.proofs.Readable.{Sound, readable-sound, Writable, encoded-readable, encoded-head, encoded-plunges}
-use Rattle.reading.specs.Reading.{IsReadable, headIn, plungesIn, plungeAt, place, total}
+use Rattle.reading.specs.Reading.{IsReadable, headIn, plungesIn, plungeAt, total}
 use Rattle.listing.specs.declared.Extent.{Extent}
 use Rattle.listing.specs.declared.ListAnswer.the-variants.{Listed}
 use Rattle.geometry.specs.Lists.{common}
@@ -36,18 +36,18 @@ use Rattle.listing.specs.Answers.{listAnswer}
 use Rattle.jobs.specs.Calls.{relief, tidiedPlunges, tidied, tidyVerdict, alike, checkVerdict}
 use Rattle.jobs.specs.Canonical.{Tidying, file, Checking, SamePlate, SameRelief, Canonical, CanonicalForm}
 use Rattle.jobs.proofs.Alike.{refused-not, alike-same, alike-equal}
-use Rattle.jobs.proofs.Lengths.{listing-few}
+use Rattle.listing_plunges.proofs.Plunges.{listing-few}
 
 -- ---- what the tidying call gave
 
 -- an answer with a list comes from an accepted call, and says how long it is
-given : (v : Verdict) (qs : List Plunge) (e : Extent) → Listed e ≡ listAnswer v qs → (v ≡ Accepted) × (e .bytes ≡ fileLength (length qs))
-given Accepted qs e h = (refl, cc)
-given (Refused r) qs e h = let z : _≡_ {A = ℕ} 0 1 = cc in absurd (omega arith)
+given : (v : Verdict) (p : Head) (qs : List Plunge) (e : Extent) → Listed e ≡ listAnswer v p qs → (v ≡ Accepted) × (e .bytes ≡ fileLength p (length qs))
+given Accepted p qs e h = (refl, cc)
+given (Refused r) p qs e h = let z : _≡_ {A = ℕ} 0 1 = cc in absurd (omega arith)
 
 module _ (f : List ℕ) (s : Tidying f) where
-  was : (tidyVerdict f (s .out) (s .a) (s .b) (s .c) ≡ Accepted) × (s .extent .bytes ≡ fileLength (length (tidiedPlunges f)))
-  was = given (tidyVerdict f (s .out) (s .a) (s .b) (s .c)) (tidiedPlunges f) (s .extent) (s .call .list .answer)
+  was : (tidyVerdict f (s .out) (s .a) (s .b) (s .c) ≡ Accepted) × (s .extent .bytes ≡ fileLength (headIn f) (length (tidiedPlunges f)))
+  was = given (tidyVerdict f (s .out) (s .a) (s .b) (s .c)) (headIn f) (tidiedPlunges f) (s .extent) (s .call .list .answer)
 
   pub tidying-readable : IsReadable f
   tidying-readable = file-read f _ (was .0)
@@ -68,16 +68,13 @@ module _ (f : List ℕ) (ok : IsReadable f) where
   sound = readable-sound f ok
 
   sides : min (headIn f .width) (headIn f .height) ≤ 2 * largestErosion
-  sides = omega (arith, sound .narrow)
+  sides = omega (arith, sound .sides .narrow)
 
   good : Writable (headIn f) (tidiedPlunges f)
   good =
       record {
-        wide = sound .wide;
-        narrow = sound .narrow;
-        tall = sound .tall;
-        low = sound .low;
-        few = listing-few (headIn f) (relief f) (sound .narrow) (sound .low);
+        sides = sound .sides;
+        few = listing-few (headIn f) (relief f) (sound .sides);
         right = λ q i. let h = listed-fits (headIn f) largestErosion (relief f) q i in (fitsPlate-iff (headIn f) q .1 (h .wholly), h .some);
       }
 
@@ -102,7 +99,7 @@ module _ (f : List ℕ) (ok : IsReadable f) where
   pub original-fits : (q : Plunge) → List·Memᴰ q (plungesIn f) → Fits (headIn f) (relief f) q
   original-fits q i = go (gather-out (total f) 0 _ i)
     where
-      go : (j : ℕ) × (0 ≤ j) × (j < 0 + total f) × List·Memᴰ q (plungeAt f (place j) ∷ []) → Fits (headIn f) (relief f) q
+      go : (j : ℕ) × (0 ≤ j) × (j < 0 + total f) × List·Memᴰ q (plungeAt f (place (headIn f) j) ∷ []) → Fits (headIn f) (relief f) q
       go (j, a, b, List·Memᴰ·tail m) = absurd (List·Memᴰ·not-nil m)
       go (j, a, b, List·Memᴰ·head e) =
           record {

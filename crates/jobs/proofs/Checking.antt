@@ -14,10 +14,10 @@ use Rattle.geometry.specs.Plate.{area}
 use Rattle.theory.specs.Listing.{listing}
 use Rattle.refusal.specs.declared.Verdict.the-variants.{Accepted, Refused}
 use Rattle.refusal.specs.Refusals.{largestSide, largestErosion}
-use Rattle.fields.specs.Fields.{four, headField, plungeField, plungeFields, endField, encoded}
+use Rattle.fields.specs.Fields.{four, headField, plungeField, plungeFields, endField, encoded, headBytes, plungeBytes, place}
 use Rattle.fields.proofs.Encoding.{encoded-injective, plungeFields-length}
 use Rattle.reading.proofs.Readable.{readable-encoded, readable-sound, length-plungesIn}
-use Rattle.reading.specs.Reading.{IsReadable, headIn, plungesIn, place, total}
+use Rattle.reading.specs.Reading.{IsReadable, headIn, plungesIn, total}
 use Rattle.listing_pass.specs.declared.Progress.{Progress}
 use Rattle.listing_pass.specs.declared.Pass.the-variants.{Compare}
 use Rattle.listing_pass.specs.Sent.{Sent, Room}
@@ -25,6 +25,8 @@ use Rattle.geometry.specs.Lists.{common}
 use Rattle.jobs.specs.Calls.{tidiedPlunges, tidied, alike}
 use Rattle.jobs.specs.Comparing.{Comparable, Compared}
 use Rattle.jobs.proofs.Alike.{alike-same, alike-equal}
+use Rattle.listing_plunges.specs.Listable.{Listable}
+use Rattle.refusal.specs.Sides.{Sides}
 
 -- ---- the common beginning of two lists that begin with as many numbers
 
@@ -101,7 +103,7 @@ first-unlike (q ∷ qs) (o ∷ os) e e′ =
     go (inr a) (inr b) m = inr (record { same = a .stops ∙ sym (b .stops); short = λ h l. absurd (omega (arith, b .short, b .stops, h)) })
     go (inl a) (inl b) (inl s) = inl (ap₂ (λ (n : Plunge) (l : List Plunge). n ∷ l) (field-equal q o (a .equal)) s)
     go (inl a) (inl b) (inr u) = inr (record {
-      same = a .more ∙ ap (λ (n : ℕ). 7 + n) (u .same) ∙ sym (b .more);
+      same = a .more ∙ ap (λ (n : ℕ). plungeBytes + n) (u .same) ∙ sym (b .more);
       short =
           λ h l. u .short (omega (arith, b .more, h)) (omega (arith, l));
     })
@@ -110,17 +112,17 @@ first-unlike (q ∷ qs) (o ∷ os) e e′ =
 
 module _ (p : Head) (qs os : List Plunge) where
   -- past its head a file is its plunges and its end
-  past-head : (l : List Plunge) → drop 6 (encoded p l) ≡ body l (0 ∷ 4 ∷ four (length l))
+  past-head : (l : List Plunge) → drop headBytes (encoded p l) ≡ body l (0 ∷ 4 ∷ four (length l))
   unfolding encoded
-  past-head l = ap (drop 6) (append-assoc (headField p) (plungeFields l) (endField (length l)))
+  past-head l = ap (drop headBytes) (append-assoc (headField p) (plungeFields l) (endField (length l)))
 
   whole : (l : List Plunge) → encoded p l ≡ headField p ++ body l (0 ∷ 4 ∷ four (length l))
   unfolding encoded
   whole l = append-assoc (headField p) (plungeFields l) (endField (length l))
 
   -- equal lists: the plunges are met to their end
-  pub met-all : qs ≡ os → common (drop 6 (encoded p qs)) (plungeFields os) ≡ length (plungeFields os)
-  met-all e = ap (λ (l : List Plunge). common (drop 6 (encoded p l)) (plungeFields os)) e ∙ ap (λ (l : List ℕ). common l (plungeFields os))
+  pub met-all : qs ≡ os → common (drop headBytes (encoded p qs)) (plungeFields os) ≡ length (plungeFields os)
+  met-all e = ap (λ (l : List Plunge). common (drop headBytes (encoded p l)) (plungeFields os)) e ∙ ap (λ (l : List ℕ). common l (plungeFields os))
       (past-head os) ∙ go (plungeFields os) _
     where
       go : (l e : List ℕ) → common (l ++ e) l ≡ length l
@@ -130,11 +132,11 @@ module _ (p : Head) (qs os : List Plunge) where
 
   -- unlike lists: the first unlike byte stands among the plunges, or where the other's end
   pub met-some : Unlike qs os (0 ∷ 4 ∷ four (length qs)) (0 ∷ 4 ∷ four (length os))
-      → common (encoded p qs) (encoded p os) ≡ 6 + common (drop 6 (encoded p qs)) (plungeFields os)
+      → common (encoded p qs) (encoded p os) ≡ headBytes + common (drop headBytes (encoded p qs)) (plungeFields os)
   met-some u =
       ap₂ common (whole qs) (whole os)
       ∙ go (common-split (headField p) (headField p) _ _ refl)
-      ∙ ap (λ (n : ℕ). 6 + n) (u .same ∙ sym (ap (λ (l : List ℕ). common l (plungeFields os)) (past-head qs)))
+      ∙ ap (λ (n : ℕ). headBytes + n) (u .same ∙ sym (ap (λ (l : List ℕ). common l (plungeFields os)) (past-head qs)))
     where
       x : List ℕ
       x = body qs (0 ∷ 4 ∷ four (length qs))
@@ -142,35 +144,36 @@ module _ (p : Head) (qs os : List Plunge) where
       y : List ℕ
       y = body os (0 ∷ 4 ∷ four (length os))
 
-      go : Alike (headField p) (headField p) x y ⊎ Apart (headField p) (headField p) x y → common (headField p ++ x) (headField p ++ y) ≡ 6 + common x y
+      go : Alike (headField p) (headField p) x y ⊎ Apart (headField p) (headField p) x y → common (headField p ++ x) (headField p ++ y) ≡ headBytes + common x y
       go (inl a) = a .more
       go (inr a) = absurd (a .unlike refl)
 
 -- ---- what the check finds
 
--- like to the end of both, or the place of the first unlike byte
+-- like to the end of both, or the place (headIn f) of the first unlike byte
 pub record Tidy (f : List ℕ) : Type 0 where
   pub is : alike f (tidied f) ≡ true
 
 pub record Untidy (f : List ℕ) (at : ℕ) (like : Bool) : Type 0 where
   pub unlike : alike f (tidied f) ≡ false
   pub first : common f (tidied f) ≡ at
-  pub told : like ≡ true → at ≡ place (total f) → ⊥
+  pub told : like ≡ true → at ≡ place (headIn f) (total f) → ⊥
 
 module _ (f : List ℕ) (ok : IsReadable f) (bytes : (i : ℕ) → getD f i 0 < 256) (at : ℕ) (like : Bool)
-    (a : at ≡ 6 + common (drop 6 f) (plungeFields (tidiedPlunges f)))
-    (b : like ≡ eqb (common (drop 6 f) (plungeFields (tidiedPlunges f))) (length (plungeFields (tidiedPlunges f)))) where
+    (a : at ≡ headBytes + common (drop headBytes f) (plungeFields (tidiedPlunges f)))
+    (b : like ≡ eqb (common (drop headBytes f) (plungeFields (tidiedPlunges f))) (length (plungeFields (tidiedPlunges f)))) where
   is : f ≡ encoded (headIn f) (plungesIn f)
   is = readable-encoded f ok bytes
 
   count : length (plungesIn f) ≡ total f
   count = length-plungesIn f
 
-  pub found : (like ≡ true × (at ≡ place (total f)) × Tidy f) ⊎ Untidy f at like
+  pub found : (like ≡ true × (at ≡ place (headIn f) (total f)) × Tidy f) ⊎ Untidy f at like
   found = go (first-unlike (plungesIn f) (tidiedPlunges f) _ _)
     where
-      same-place : common (drop 6 f) (plungeFields (tidiedPlunges f)) ≡ common (drop 6 (encoded (headIn f) (plungesIn f))) (plungeFields (tidiedPlunges f))
-      same-place = ap (λ (l : List ℕ). common (drop 6 l) (plungeFields (tidiedPlunges f))) is
+      same-place : common (drop headBytes f) (plungeFields (tidiedPlunges f)) ≡ common (drop headBytes (encoded (headIn f) (plungesIn f)))
+          (plungeFields (tidiedPlunges f))
+      same-place = ap (λ (l : List ℕ). common (drop headBytes l) (plungeFields (tidiedPlunges f))) is
 
       apart : (plungesIn f ≡ tidiedPlunges f → ⊥) → (t : Bool) → alike f (tidied f) ≡ t → t ≡ false
       apart h false e = refl
@@ -178,7 +181,7 @@ module _ (f : List ℕ) (ok : IsReadable f) (bytes : (i : ℕ) → getD f i 0 < 
 
       go : (plungesIn f ≡ tidiedPlunges f) ⊎ Unlike (plungesIn f) (tidiedPlunges f) (0 ∷ 4 ∷ four (length (plungesIn f)))
           (0 ∷ 4 ∷ four (length (tidiedPlunges f)))
-          → (like ≡ true × (at ≡ place (total f)) × Tidy f) ⊎ Untidy f at like
+          → (like ≡ true × (at ≡ place (headIn f) (total f)) × Tidy f) ⊎ Untidy f at like
       go (inl e) =
           inl (
             b ∙ eq-eqb _ _ all,
@@ -186,64 +189,59 @@ module _ (f : List ℕ) (ok : IsReadable f) (bytes : (i : ℕ) → getD f i 0 < 
             record { is = alike-same f (tidied f) (is ∙ ap (encoded (headIn f)) e) },
           )
         where
-          all : common (drop 6 f) (plungeFields (tidiedPlunges f)) ≡ length (plungeFields (tidiedPlunges f))
+          all : common (drop headBytes f) (plungeFields (tidiedPlunges f)) ≡ length (plungeFields (tidiedPlunges f))
           all = same-place ∙ met-all (headIn f) (plungesIn f) (tidiedPlunges f) e
       go (inr u) =
           inr (record {
             unlike = apart ne (alike f (tidied f)) refl;
             first = ap (λ (l : List ℕ). common l (tidied f)) is ∙ met-some (headIn f) (plungesIn f) (tidiedPlunges f) u ∙ sym
-                (a ∙ ap (λ (n : ℕ). 6 + n) same-place);
+                (a ∙ ap (λ (n : ℕ). headBytes + n) same-place);
             told = λ h l. u .short (sym there ∙ met h) (omega (arith, l, a, met h, plungeFields-length (tidiedPlunges f), count));
           })
         where
-          there : common (drop 6 f) (plungeFields (tidiedPlunges f)) ≡ common (body (plungesIn f) (0 ∷ 4 ∷ four (length (plungesIn f))))
+          there : common (drop headBytes f) (plungeFields (tidiedPlunges f)) ≡ common (body (plungesIn f) (0 ∷ 4 ∷ four (length (plungesIn f))))
               (plungeFields (tidiedPlunges f))
           there = same-place ∙ ap (λ (l : List ℕ). common l (plungeFields (tidiedPlunges f)))
               (past-head (headIn f) (plungesIn f) (tidiedPlunges f) (plungesIn f))
 
-          met : like ≡ true → common (drop 6 f) (plungeFields (tidiedPlunges f)) ≡ length (plungeFields (tidiedPlunges f))
+          met : like ≡ true → common (drop headBytes f) (plungeFields (tidiedPlunges f)) ≡ length (plungeFields (tidiedPlunges f))
           met h = eqb-true _ _ (sym b ∙ h)
 
           ne : plungesIn f ≡ tidiedPlunges f → ⊥
           ne e = u .short (sym there ∙ same-place ∙ met-all (headIn f) (plungesIn f) (tidiedPlunges f) e) (ap length e)
 
--- ---- the comparing walk
+-- ---- the comparing pass
 
 module _ (p : Head) (n : ℕ) (f m a b : List ℕ) (q : Comparable p n f m a b) where
-  -- what the walk asks
+  -- what the pass asks
   pub compare-asks : (out : List ℕ)
-      → (1 ≤ p .width) × (p .width ≤ largestSide) × (p .height ≤ largestSide) × (area p ≤ length m) × (area p ≤ length a) × (area p ≤ length b)
-      × Room Compare (6 + 7 * length (listing p largestErosion m)) out
+      → Listable p m a b × Room Compare (headBytes + plungeBytes * length (listing p largestErosion m)) out
   compare-asks out =
       let s = readable-sound f (q .readable) in (
-        subst (λ (h : Head). 1 ≤ h .width) (sym (q .head)) (s .wide),
-        subst (λ (h : Head). h .width ≤ largestSide) (sym (q .head)) (s .narrow),
-        subst (λ (h : Head). h .height ≤ largestSide) (sym (q .head)) (s .low),
-        q .relief,
-        q .first,
-        q .second,
+        record { sides = subst Sides (sym (q .head)) (s .sides); relief = q .relief; first = q .first; second = q .second },
         (λ e. let z : _≡_ {A = ℕ} 0 1 = cc in absurd (omega arith)),
       )
 
-  module _ (old new : List ℕ) (r : Progress) (t : Sent Compare f 6 (plungeFields (listing p largestErosion m)) old new r) where
-    finds : (r .like ≡ true × (r .at ≡ place (total f)) × Tidy f) ⊎ Untidy f (r .at) (r .like)
+  module _ (old new : List ℕ) (r : Progress) (t : Sent Compare f headBytes (plungeFields (listing p largestErosion m)) old new r) where
+    finds : (r .like ≡ true × (r .at ≡ place (headIn f) (total f)) × Tidy f) ⊎ Untidy f (r .at) (r .like)
     finds =
         found f (q .readable) (q .bytes) (r .at) (r .like)
-        (t .place ∙ ap (λ (qs : List Plunge). 6 + common (drop 6 f) (plungeFields qs)) (q .lists))
-        (t .like ∙ ap (λ (qs : List Plunge). eqb (common (drop 6 f) (plungeFields qs)) (length (plungeFields qs))) (q .lists))
+        (t .place ∙ ap (λ (qs : List Plunge). headBytes + common (drop headBytes f) (plungeFields qs)) (q .lists))
+        (t .like ∙ ap (λ (qs : List Plunge). eqb (common (drop headBytes f) (plungeFields qs)) (length (plungeFields qs))) (q .lists))
 
-    pub compared-like : r .like ≡ true → r .at ≡ 6 + 7 * n → Compared f Accepted
+    pub compared-like : r .like ≡ true → r .at ≡ place p n → Compared f Accepted
     compared-like l e = go finds
       where
-        go : (r .like ≡ true × (r .at ≡ place (total f)) × Tidy f) ⊎ Untidy f (r .at) (r .like) → Compared f Accepted
+        go : (r .like ≡ true × (r .at ≡ place (headIn f) (total f)) × Tidy f) ⊎ Untidy f (r .at) (r .like) → Compared f Accepted
         go (inl x) = rw (x .2 .is)
-        go (inr x) = absurd (x .told l (e ∙ ap place (q .count)))
+        go (inr x) = absurd (x .told l (e ∙ ap (place (headIn f)) (q .count)))
 
-    pub compared-unlike : (r .like ≡ true → r .at ≡ 6 + 7 * n → ⊥) → Compared f (Refused (record { number = 12; place = r .at }))
+    pub compared-unlike : (r .like ≡ true → r .at ≡ place p n → ⊥) → Compared f (Refused (record { number = 12; place = r .at }))
     compared-unlike h = go finds
       where
-        go : (r .like ≡ true × (r .at ≡ place (total f)) × Tidy f) ⊎ Untidy f (r .at) (r .like) → Compared f (Refused (record { number = 12; place = r .at }))
-        go (inl x) = absurd (h (x .0) (x .1 ∙ ap place (sym (q .count))))
+        go : (r .like ≡ true × (r .at ≡ place (headIn f) (total f)) × Tidy f) ⊎ Untidy f (r .at) (r .like)
+            → Compared f (Refused (record { number = 12; place = r .at }))
+        go (inl x) = absurd (h (x .0) (x .1 ∙ ap (place (headIn f)) (sym (q .count))))
         go (inr x) = rw (x .unlike) (ap (λ (n : ℕ). Refused (record { number = 12; place = n })) (sym (x .first)))
 
 pub not-both : true ≡ false → ⊥

@@ -1,5 +1,4 @@
 pub mod Alike
-pub mod Lengths
 pub mod Calls
 pub mod Canonical
 pub mod Blocks

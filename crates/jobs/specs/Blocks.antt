@@ -1,4 +1,4 @@
--- The M blocks of document 01 with their files: the same blocks as in the theory, and the whole file of each.
+-- To be believed: the M blocks of document 01 with their files: the same blocks as in the theory, and the whole file of each.
 use mathlib.Core.List.{List, [], _∷_}
 use Prim.Native.Nat.{ℕ}
 use Rattle.theory.specs.Blocks.{Answers, Block, answers}

@@ -1,4 +1,4 @@
--- Calls on plunge files: what each answers, and what its buffers hold at exit (document 01, "Plunge file, drawing, tidying" and "Refusals in their order").
+-- To be believed: calls on plunge files: what each answers, and what its buffers hold at exit (document 01, "Plunge file, drawing, tidying" and "Refusals in their order").
 use mathlib.Core.Path.{_≡_}
 use mathlib.Core.Bool.{Bool, false, cond, not}
 use mathlib.Core.List.{List, [], _∷_, _++_}
@@ -42,11 +42,11 @@ listed m k w h = listing (headOf k w h) largestErosion m
 -- "Arguments are tried in the order 1, 2, 3; … then 4, … 5."
 abbrev pub listVerdict : List ℕ → ℕ → ℕ → ℕ → List ℕ → List ℕ → List ℕ → Verdict
 listVerdict m k w h out a b =
-    firstMet (mapTrials k w h false (length m ∷ length a ∷ length b ∷ []) ++ roomTrials (fileLength (length (listed m k w h))) out)
+    firstMet (mapTrials k w h false (length m ∷ length a ∷ length b ∷ []) ++ roomTrials (fileLength (headOf k w h) (length (listed m k w h))) out)
 
 -- a call that answers with a list: the answer, the file's bytes, two work buffers
 pub record Listing (verdict : Verdict) (p : Head) (qs : List Plunge) (out out′ a a′ b b′ : List ℕ) (r : ListAnswer) : Type 0 where
-  pub answer : r ≡ listAnswer verdict qs
+  pub answer : r ≡ listAnswer verdict p qs
   pub bytes : out′ ≡ written verdict (encoded p qs) out
   pub first : Worked verdict (area p) a a′
   pub second : Worked verdict (area p) b b′
@@ -67,7 +67,7 @@ abbrev pub workTrial : List ℕ → List ℕ → List ℕ → List ℕ → Trial
 workTrial f a b c = plateTrial f (length a ∷ length b ∷ length c ∷ [])
 
 abbrev pub tidyVerdict : List ℕ → List ℕ → List ℕ → List ℕ → List ℕ → Verdict
-tidyVerdict f out a b c = firstMet (fileTrials f ++ (workTrial f a b c ∷ roomTrials (fileLength (length (tidiedPlunges f))) out))
+tidyVerdict f out a b c = firstMet (fileTrials f ++ (workTrial f a b c ∷ roomTrials (fileLength (headIn f) (length (tidiedPlunges f))) out))
 
 pub record TidyCall (f out out′ a a′ b b′ c c′ : List ℕ) (r : ListAnswer) : Type 0 where
   pub list : Listing (tidyVerdict f out a b c) (headIn f) (tidiedPlunges f) out out′ a a′ b b′ r

@@ -1,4 +1,4 @@
--- Demand 3, the canonical-form theorem's statement: about what the tidying call answers and leaves in its output, by the records that its contract cites.
+-- To be believed: demand 3, the canonical-form theorem's statement: about what the tidying call answers and leaves in its output, by the records that its contract cites.
 use mathlib.Core.Path.{_≡_}
 use mathlib.Core.Bool.{false}
 use mathlib.Core.Logic.{_↔_}

@@ -1,4 +1,4 @@
--- What the comparison of the tidy check is asked and gives.
+-- Serves proofs: what the comparison of the tidy check is asked and gives.
 use mathlib.Core.Path.{_≡_}
 use mathlib.Core.Bool.{not}
 use mathlib.Core.List.{List, [], _∷_}

@@ -118,7 +118,7 @@ fn compare(
         b,
     );
     if progress.like {
-        if progress.at == 6 + 7 * plunges {
+        if progress.at == fields::place(head, plunges) {
             return Verdict::Accepted;
         }
     }

@@ -3,13 +3,13 @@ use motion::Motion;
 use motion::MotionAnswer;
 use motion::Motions;
 use motion::Scale;
+use reading::Job;
 use reading::ReadAnswer;
 use text::Page;
-ghost use mathlib.Core.Path.{_≡_};
 ghost use Prim.Native.Nat.{_≤_};
 ghost use lib.ListN.{length};
 ghost use Rattle.io.specs.Counts.{Counts};
-ghost use Rattle.reading.specs.Reading.{total, IsReadable};
+ghost use Rattle.reading.specs.Steps.{JobOf};
 
 // A blank and millimetres, as few digits as tell the number from every other.
 fn put_millimetres(page: &mut [u8], at: usize, x: f64) -> usize
@@ -59,18 +59,11 @@ fn put_three(page: &mut [u8], at: usize, motions: Motions) -> usize
 }
 
 // The motions of plunge number i.
-fn put_plunge(
-    page: &mut [u8],
-    at: usize,
-    file: &[u8],
-    plunges: usize,
-    i: usize,
-    scale: Scale,
-) -> usize
-    requires { ⌜ (at ≤ length (now page)) × IsReadable (now file) × (plunges ≡ total (now file)) ⌝ }
+fn put_plunge(page: &mut [u8], at: usize, file: &[u8], job: Job, i: usize, scale: Scale) -> usize
+    requires { ⌜ (at ≤ length (now page)) × JobOf (now file) job ⌝ }
     ensures { λ r. ⌜ Counts r (now (page .exit)) ⌝ }
 {
-    let answer = motion::motions_at(file, plunges, i, scale);
+    let answer = motion::motions_at(file, job, i, scale);
     match answer {
         MotionAnswer::Moves(motions) => put_three(page, at, motions),
         MotionAnswer::NoMoves(_) => at,
@@ -78,10 +71,11 @@ fn put_plunge(
 }
 
 // The motions of every plunge, page by page.
-fn put_plunges(fd: i32, file: &[u8], plunges: usize, scale: Scale, page: &mut [u8]) -> Page
-    requires { ⌜ (256 ≤ length (now page)) × IsReadable (now file) × (plunges ≡ total (now file)) ⌝ }
+fn put_plunges(fd: i32, file: &[u8], job: Job, scale: Scale, page: &mut [u8]) -> Page
+    requires { ⌜ (256 ≤ length (now page)) × JobOf (now file) job ⌝ }
     ensures { λ r. ⌜ Counts (r .used) (now (page .exit)) ⌝ }
 {
+    let plunges = job.plunges;
     let mut used = 0;
     let mut i = 0;
     while i < plunges {
@@ -89,7 +83,7 @@ fn put_plunges(fd: i32, file: &[u8], plunges: usize, scale: Scale, page: &mut [u
         if !room.ok {
             return Page { used: 0, ok: false };
         }
-        used = put_plunge(page, room.used, file, plunges, i, scale);
+        used = put_plunge(page, room.used, file, job, i, scale);
         i += 1;
     }
     Page { used, ok: true }
@@ -102,7 +96,7 @@ pub fn print_motions(fd: i32, file: &[u8], scale: Scale) -> bool {
         ReadAnswer::Unreadable(_) => false,
         ReadAnswer::Readable(job) => {
             let mut page = io::large_buffer();
-            let last = put_plunges(fd, file, job.plunges, scale, &mut page);
+            let last = put_plunges(fd, file, job, scale, &mut page);
             if last.ok {
                 return io::write_all(fd, &page[..last.used]);
             }

@@ -1,8 +1,9 @@
--- What a listing answers (document 01, "Refusals in their order").
+-- To be believed: what a listing answers (document 01, "Refusals in their order").
 use mathlib.Core.List.{List, [], _∷_}
 use Prim.Native.Nat.{ℕ}
 use lib.Dec.{ltb}
 use lib.ListN.{length}
+use Rattle.geometry.specs.declared.Head.{Head}
 use Rattle.geometry.specs.declared.Plunge.{Plunge}
 use Rattle.refusal.specs.declared.Verdict.{Verdict}
 use Rattle.refusal.specs.declared.Verdict.the-variants.{Accepted, Refused}
@@ -16,6 +17,6 @@ abbrev pub roomTrials : ℕ → List ℕ → List Trial
 roomTrials n out = trial (ltb (length out) n) 5 n ∷ []
 
 -- the answer to a verdict on a list: how long its file is and how many plunges it has, or the refusal
-abbrev pub listAnswer : Verdict → List Plunge → ListAnswer
-listAnswer Accepted qs = Listed (record { bytes = fileLength (length qs); plunges = length qs })
-listAnswer (Refused r) qs = Unlisted r
+abbrev pub listAnswer : Verdict → Head → List Plunge → ListAnswer
+listAnswer Accepted p qs = Listed (record { bytes = fileLength p (length qs); plunges = length qs })
+listAnswer (Refused r) p qs = Unlisted r

@@ -3,16 +3,16 @@ use geometry::Head;
 use listing_pass::Pass;
 use refusal::Refusal;
 ghost use mathlib.Core.Path.{_≡_};
-ghost use Prim.Native.Nat.{_+_, _-_, _*_, _≤_};
+ghost use Prim.Native.Nat.{_-_, _≤_};
 ghost use lib.ListN.{length, drop};
 ghost use lib.Seq.{paste};
-ghost use Rattle.geometry.specs.Plate.{area};
 ghost use Rattle.theory.specs.Listing.{listing};
-ghost use Rattle.refusal.specs.Refusals.{largestSide, largestErosion};
+ghost use Rattle.refusal.specs.Refusals.{largestErosion};
 ghost use Rattle.buffers.specs.Fill.{PlateOnly};
-ghost use Rattle.fields.specs.Fields.{plungeFields};
+ghost use Rattle.fields.specs.Fields.{headBytes, plungeFields};
+ghost use Rattle.listing_plunges.specs.Listable.{Listable};
 ghost use Rattle.fields.specs.Writing.{spliced};
-ghost use Rattle.listing.specs.Staging.{stageLength, KeptPlunges, ListedInto};
+ghost use Rattle.listing.specs.Staging.{Puttable, ListedInto};
 
 // How long a file is, and how many plunges it has.
 pub struct Extent {
@@ -26,22 +26,22 @@ pub enum ListAnswer {
     Unlisted(Refusal),
 }
 
-// The bytes of a file that a first climb can keep: the plunges of a longer one are found again by a second climb.
+// The bytes of a file that the first pass can keep: the plunges of a longer one are found again by a second pass.
 pub const STAGE: usize = 32768;
 
-// Copies the bytes from place 6 up to another place, to the same places of another buffer.
+// Copies the bytes behind the head up to a place, to the same places of another buffer.
 fn copy_past_head(src: &[u8], dst: &mut [u8], to: usize)
-    requires { ⌜ (6 ≤ to) × (to ≤ length (now src)) × (to ≤ length (now dst)) ⌝ }
-    ensures { λ _. ⌜ now (dst .exit) ≡ paste (now (dst .entry)) 6 (drop 6 (now (src .entry))) (to - 6) ⌝ }
+    requires { ⌜ (headBytes ≤ to) × (to ≤ length (now src)) × (to ≤ length (now dst)) ⌝ }
+    ensures { λ _. ⌜ now (dst .exit) ≡ paste (now (dst .entry)) headBytes (drop headBytes (now (src .entry))) (to - headBytes) ⌝ }
 {
-    let mut n = 6;
+    let mut n = fields::HEAD_BYTES;
     while n < to {
         dst[n] = src[n];
         n += 1;
     }
 }
 
-// Writes the plunges of a relief's listing to an output from place 6 on: those that were kept, else by another climb.
+// Writes the plunges of a relief's listing to an output behind the head: those that were kept, else by another pass.
 fn put_plunges(
     head: Head,
     relief: &[u8],
@@ -51,8 +51,8 @@ fn put_plunges(
     a: &mut [u8],
     b: &mut [u8],
 )
-    requires { ⌜ (1 ≤ head .width) × (head .width ≤ largestSide) × (head .height ≤ largestSide) × (area head ≤ length (now relief)) × (area head ≤ length (now a)) × (area head ≤ length (now b)) × (length (now kept) ≡ stageLength) × (end ≡ 6 + 7 * length (listing head largestErosion (now relief))) × (end ≤ length (now out)) × KeptPlunges (now kept) end (listing head largestErosion (now relief)) ⌝ }
-    ensures { λ _. ⌜ (now (out .exit) ≡ spliced (now (out .entry)) 6 (plungeFields (listing head largestErosion (now (relief .entry))))) × PlateOnly head (now (a .entry)) (now (a .exit)) × PlateOnly head (now (b .entry)) (now (b .exit)) ⌝ }
+    requires { ⌜ Puttable head (now relief) (now kept) end (now out) (now a) (now b) ⌝ }
+    ensures { λ _. ⌜ (now (out .exit) ≡ spliced (now (out .entry)) headBytes (plungeFields (listing head largestErosion (now (relief .entry))))) × PlateOnly head (now (a .entry)) (now (a .exit)) × PlateOnly head (now (b .entry)) (now (b .exit)) ⌝ }
 {
     if end <= STAGE {
         copy_past_head(kept, out, end);
@@ -69,14 +69,14 @@ pub fn list_into(
     a: &mut [u8],
     b: &mut [u8],
 ) -> ListAnswer
-    requires { ⌜ (1 ≤ head .width) × (head .width ≤ largestSide) × (head .height ≤ largestSide) × (area head ≤ length (now relief)) × (area head ≤ length (now a)) × (area head ≤ length (now b)) ⌝ }
+    requires { ⌜ Listable head (now relief) (now a) (now b) ⌝ }
     ensures { λ r. ⌜ ListedInto head (now (relief .entry)) (now (out .entry)) (now (out .exit)) r × PlateOnly head (now (a .entry)) (now (a .exit)) × PlateOnly head (now (b .entry)) (now (b .exit)) ⌝ }
 {
     let mut kept = [0u8; STAGE];
     let counted = listing_plunges::send_listing(head, Pass::Stage, relief, relief, &mut kept, a, b);
     let end = counted.at;
-    let plunges = (end - 6) / 7;
-    let bytes = end + 7;
+    let plunges = (end - fields::HEAD_BYTES) / fields::PLUNGE_BYTES;
+    let bytes = end + fields::END_BYTES;
     if out.len() < bytes {
         return ListAnswer::Unlisted(Refusal {
             number: 5,

@@ -11,8 +11,8 @@ use lib.ListN.{length, drop, length-append}
 use lib.Seq.{drop-drop}
 use Rattle.geometry.specs.declared.Plunge.{Plunge}
 use Rattle.geometry.specs.Lists.{gather, common}
-use Rattle.theory.proofs.Lists.{gather-split, gather-more, gather-nil, gather-same}
-use Rattle.fields.specs.Fields.{plungeFields}
+use Rattle.theory.proofs.Lists.{gather-split, gather-more, gather-nil, gather-same, gather-few}
+use Rattle.fields.specs.Fields.{plungeFields, plungeBytes}
 use Rattle.fields.specs.Writing.{spliced}
 use Rattle.fields.proofs.Splice.{splice-nil, splice-length, splice-splice}
 use Rattle.fields.proofs.Encoding.{plungeFields-append, plungeFields-length}
@@ -158,11 +158,6 @@ module _ {A : Type 0} (qs : ℕ → List A) where
         length-append (gather n 0 qs) (qs n),
       )
 
-  -- each list has at most b members
-  pub gather-few : (b : ℕ) → ((j : ℕ) → length (qs j) ≤ b) → (n i : ℕ) → length (gather n i qs) ≤ n * b
-  gather-few b h zero i = omega arith
-  gather-few b h (suc n) i = omega (arith, length-append (qs i) (gather n (suc i) qs), h i, gather-few b h n (suc i), suc-mul n b)
-
   -- lists that are all empty
   pub gather-none : (n i : ℕ) → ((j : ℕ) → i ≤ j → j < i + n → qs j ≡ []) → gather n i qs ≡ []
   gather-none n i h = gather-same n i qs (λ j. []) h ∙ gather-nil n i (λ j. []) (λ j g. refl)
@@ -184,10 +179,10 @@ module _ (pass : Pass) (file : List ℕ) (qs : ℕ → List Plunge) (at : ℕ) (
       }
 
   module _ (n place : ℕ) (mid : List ℕ) (s : Sending pass file qs at old n mid place) where
-    pub sending-place : place ≡ at + 7 * length (gather n 0 qs)
+    pub sending-place : place ≡ at + plungeBytes * length (gather n 0 qs)
     sending-place = omega (arith, sent-all pass file at _ old mid _ (s .sent) refl, plungeFields-length (gather n 0 qs))
 
-    module _ (total : ℕ) (room : Room pass (at + 7 * length (gather total 0 qs)) old) where
+    module _ (total : ℕ) (room : Room pass (at + plungeBytes * length (gather total 0 qs)) old) where
       pub sending-same : n ≤ total → length mid ≡ length old
       sending-same h =
           sent-same pass file at _ old mid _ (s .sent)
@@ -200,7 +195,7 @@ module _ (pass : Pass) (file : List ℕ) (qs : ℕ → List Plunge) (at : ℕ) (
           ))
 
       -- room for the next turn
-      pub sending-room : n < total → Room pass (place + 7 * length (qs n)) mid
+      pub sending-room : n < total → Room pass (place + plungeBytes * length (qs n)) mid
       sending-room h e = omega (arith, room e, sending-place, turn-within qs n total h, sending-same (omega arith))
 
       module _ (new : List ℕ) (t : Progress) (next : Sent pass file place (plungeFields (qs n)) mid new t) (less : n < total) where
@@ -223,7 +218,7 @@ module _ (pass : Pass) (file : List ℕ) (qs : ℕ → List Plunge) (at : ℕ) (
             (sent-stops pass file at (plungeFields (gather (n + 1) 0 qs)) (plungeFields (gather (total - (n + 1)) (n + 1) qs)) old new t turn e)
 
     -- where each turn sends at most b plunges, the places stay below a bound
-    pub sending-fits : (b total : ℕ) → ((j : ℕ) → length (qs j) ≤ b) → n < total → place + 7 * b ≤ at + 7 * (total * b)
+    pub sending-fits : (b total : ℕ) → ((j : ℕ) → length (qs j) ≤ b) → n < total → place + plungeBytes * b ≤ at + plungeBytes * (total * b)
     sending-fits b total h l = omega (arith, sending-place, gather-few qs b h n 0, mul-le-mul-right b l, suc-mul n b)
 
     -- all turns are made, or the others send nothing

@@ -1,4 +1,4 @@
--- A pass over bytes that a file is made of: they are counted, written to an output, compared with a file, or staged.
+-- Serves proofs: a pass over bytes that a file is made of: they are counted, written to an output, compared with a file, or staged.
 use mathlib.Core.Path.{_≡_}
 use mathlib.Core.List.{List}
 use Prim.Native.Nat.{ℕ, _+_, _≤_, _<_}
@@ -37,7 +37,3 @@ pub record Sent (pass : Pass) (file : List ℕ) (at : ℕ) (bs old new : List �
 -- a pass that writes has room in the output up to a place
 abbrev pub Room : Pass → ℕ → List ℕ → Type 0
 Room pass n out = pass ≡ Write → n ≤ length out
-
--- a place that a length can be
-abbrev pub IsLength : ℕ → Type 0
-IsLength n = n < 18446744073709551616

@@ -4,8 +4,9 @@ ghost use mathlib.Core.Path.{_≡_};
 ghost use Prim.Native.Nat.{_+_, _<_};
 ghost use lib.Dec.{eqb};
 ghost use lib.ListN.{length, drop};
-ghost use Rattle.fields.specs.Fields.{plungeField};
-ghost use Rattle.listing_pass.specs.Sent.{Staged, Sent, Room, IsLength};
+ghost use Rattle.fields.specs.Fields.{plungeBytes, plungeField};
+ghost use Rattle.fields.specs.Lengths.{IsLength};
+ghost use Rattle.listing_pass.specs.Sent.{Staged, Sent, Room};
 ghost use Rattle.geometry.specs.Lists.{common};
 
 // What is done with the bytes of each field. Staged fields are all counted, and written as far as an output has room.
@@ -44,41 +45,49 @@ pub fn common_run(file: &[u8], at: usize, bytes: &[u8]) -> usize
 
 // Compares a plunge's field with a file from a place on.
 fn compare(file: &[u8], at: usize, q: Plunge) -> Progress
-    requires { ⌜ IsLength (at + 7) × (q .column < 256) × (q .row < 256) ⌝ }
-    ensures { λ r. ⌜ (r .at ≡ at + common (drop at (now (file .entry))) (plungeField q)) × (r .like ≡ eqb (common (drop at (now (file .entry))) (plungeField q)) 7) ⌝ }
+    requires { ⌜ IsLength (at + plungeBytes) × (q .column < 256) × (q .row < 256) ⌝ }
+    ensures { λ r. ⌜ (r .at ≡ at + common (drop at (now (file .entry))) (plungeField q)) × (r .like ≡ eqb (common (drop at (now (file .entry))) (plungeField q)) plungeBytes) ⌝ }
 {
-    let field = [2u8, 0, 4, q.column as u8, q.row as u8, q.reach.0, q.depth];
+    let field = [
+        fields::PLUNGE_TAG,
+        0,
+        fields::PLUNGE_SIZE,
+        q.column as u8,
+        q.row as u8,
+        q.reach.0,
+        q.depth,
+    ];
     let n = common_run(file, at, &field);
     Progress {
         at: at + n,
-        like: n == 7,
+        like: n == fields::PLUNGE_BYTES,
     }
 }
 
 // Writes a plunge's field at a place if the output has room for it.
 fn stage(out: &mut [u8], at: usize, q: Plunge)
-    requires { ⌜ IsLength (at + 7) × (q .column < 256) × (q .row < 256) ⌝ }
+    requires { ⌜ IsLength (at + plungeBytes) × (q .column < 256) × (q .row < 256) ⌝ }
     ensures { λ _. ⌜ Staged (now (out .entry)) at (plungeField q) (now (out .exit)) ⌝ }
 {
-    if at + 7 <= out.len() {
+    if at + fields::PLUNGE_BYTES <= out.len() {
         fields::put_plunge(out, at, q);
     }
 }
 
 // Sends one plunge at a place: its field is counted, written, compared or staged there. Bytes of the output change only where it is written.
 pub fn send(pass: Pass, file: &[u8], out: &mut [u8], at: usize, q: Plunge) -> Progress
-    requires { ⌜ IsLength (at + 7) × Room pass (at + 7) (now out) × (q .column < 256) × (q .row < 256) ⌝ }
+    requires { ⌜ IsLength (at + plungeBytes) × Room pass (at + plungeBytes) (now out) × (q .column < 256) × (q .row < 256) ⌝ }
     ensures { λ r. ⌜ Sent pass (now (file .entry)) at (plungeField q) (now (out .entry)) (now (out .exit)) r ⌝ }
 {
     match pass {
         Pass::Count => Progress {
-            at: at + 7,
+            at: at + fields::PLUNGE_BYTES,
             like: true,
         },
         Pass::Write => {
             fields::put_plunge(out, at, q);
             Progress {
-                at: at + 7,
+                at: at + fields::PLUNGE_BYTES,
                 like: true,
             }
         }
@@ -86,7 +95,7 @@ pub fn send(pass: Pass, file: &[u8], out: &mut [u8], at: usize, q: Plunge) -> Pr
         Pass::Stage => {
             stage(out, at, q);
             Progress {
-                at: at + 7,
+                at: at + fields::PLUNGE_BYTES,
                 like: true,
             }
         }

@@ -8,7 +8,7 @@ use native.Mathlib.Nat.{mul-one}
 use borrow.Author.Tests.{eq-eqb, ne-eqb}
 use lib.ListN.{length, getD}
 use Rattle.geometry.specs.declared.Plunge.{Plunge}
-use Rattle.fields.specs.Fields.{plungeField, plungeFields}
+use Rattle.fields.specs.Fields.{plungeField, plungeFields, plungeBytes}
 use Rattle.residue_marks.specs.Marks.{NextMark}
 use Rattle.listing_pass.specs.declared.Pass.{Pass}
 use Rattle.listing_pass.specs.declared.Progress.{Progress}
@@ -52,17 +52,17 @@ module _ (pass : Pass) (file : List ℕ) (at : ℕ) (old : List ℕ) (w : ℕ) (
   mark-first i m = past 0 i at old (sending-none pass file each at old) m
 
   module _ (i : ℕ) (mid : List ℕ) (place : ℕ) (s : AtMark pass file at old w prev r start marks number i mid place) where
-    pub mark-fits : i < number → place + 7 ≤ at + 7 * number
+    pub mark-fits : i < number → place + plungeBytes ≤ at + plungeBytes * number
     mark-fits l = omega (arith, sending-fits pass file each at old i place mid (s .sending) 1 number (λ j. mark-few (getD marks j 0) _) l, mul-one number)
 
     pub mark-end : number ≤ i → Sent pass file at (plungeFields (marksTo number w prev r start marks)) old mid (record { at = place; like = true })
     mark-end l = sending-end pass file each at old i place mid (s .sending) number (s .within) (λ j a b. absurd (omega arith))
 
-    module _ (room : Room pass (at + 7 * length (marksTo number w prev r start marks)) old) (less : i < number) where
+    module _ (room : Room pass (at + plungeBytes * length (marksTo number w prev r start marks)) old) (less : i < number) where
       one : each i ≡ plungeAtPlace w r (start + i) (getD prev (start + i) 0) ∷ []
       one = on-one (getD marks i 0) _ (s .marked less)
 
-      pub mark-room : Room pass (place + 7) mid
+      pub mark-room : Room pass (place + plungeBytes) mid
       mark-room = room-as pass place (each i) (plungeAtPlace w r (start + i) (getD prev (start + i) 0) ∷ []) mid one
           (sending-room pass file each at old i place mid (s .sending) number room less)
 

@@ -16,29 +16,32 @@ use Rattle.geometry.specs.declared.Plunge.{Plunge}
 use Rattle.geometry.specs.declared.Reach.{Reach}
 use Rattle.geometry.specs.declared.MaybeReach.{MaybeReach}
 use Rattle.geometry.specs.declared.MaybeReach.the-variants.{OfReach, NoReach}
-use Rattle.geometry.specs.Forms.{reachOfClearance}
+use Rattle.geometry.specs.Forms.{reachOfClearance, largestReach}
 use Rattle.geometry.specs.Lists.{gather}
 use Rattle.geometry.specs.Plane.{Cell, cell}
 use Rattle.geometry.specs.Plate.{area, at}
 use Rattle.theory.specs.Erosion.{erosion, highestNear, residue}
 use Rattle.theory.specs.Listing.{listedAt, listing}
-use Rattle.theory.proofs.Lists.{gather-same}
+use Rattle.theory.proofs.Lists.{gather-same, gather-few}
 use Rattle.theory.proofs.Plate.{at-cell}
-use Rattle.theory.proofs.Listing.{listing-stops}
+use Rattle.theory.proofs.Listing.{listing-stops, level-few, listing-length}
 use Rattle.buffers.specs.Margin.{Margin}
 use Rattle.erosion_series.specs.Pairs.{Turn, Pair}
 use Rattle.erosion_series.proofs.Pairs.{mod-cases}
 use Rattle.erosion_series.proofs.Scores.{turn-residue}
-use Rattle.fields.specs.Fields.{plungeFields}
+use Rattle.fields.specs.Fields.{plungeFields, headBytes, plungeBytes}
 use Rattle.fields.proofs.Encoding.{plungeFields-length}
 use Rattle.residue_marks.specs.Marks.{markOf, markAt, tally, Marked}
 use Rattle.residue_marks.proofs.Marking.{at-small, at-zero}
 use Rattle.listing_pass.specs.declared.Pass.{Pass}
 use Rattle.listing_pass.specs.declared.Pass.the-variants.{Count, Write, Compare, Stage}
 use Rattle.listing_pass.specs.declared.Progress.{Progress}
-use Rattle.listing_pass.specs.Sent.{Sent, Room, IsLength}
-use Rattle.listing_pass.proofs.Passes.{sent-none, sent-counted, sent-staged, gather-turn, gather-few, gather-none, Sending, sending-fits}
+use Rattle.listing_pass.specs.Sent.{Sent, Room}
+use Rattle.listing_pass.proofs.Passes.{sent-none, sent-counted, sent-staged, gather-turn, gather-none, Sending, sending-fits}
 use Rattle.listing_plunges.specs.Rows.{counting, plungeOf, plungeAtPlace, onMark, markedPlace, markedAt, marksTo, rowPlunges, levelPlunges, pairPlunges}
+use Rattle.fields.specs.Lengths.{IsLength}
+use Rattle.refusal.specs.Refusals.{largestErosion}
+use Rattle.refusal.specs.Sides.{Sides}
 
 -- ---- one row
 
@@ -114,21 +117,21 @@ sent-empty pass file at qs old e = subst (λ (l : List Plunge). Sent pass file a
 
 -- a count of plunges
 sent-number : (pass : Pass) (file : List ℕ) (at n : ℕ) (qs : List Plunge) (old : List ℕ) → pass ≡ Count → n ≡ length qs
-    → Sent pass file at (plungeFields qs) old old (record { at = at + 7 * n; like = true })
+    → Sent pass file at (plungeFields qs) old old (record { at = at + plungeBytes * n; like = true })
 sent-number pass file at n qs old e g =
-    let k : length (plungeFields qs) ≡ 7 * n = omega (arith, plungeFields-length qs) in
+    let k : length (plungeFields qs) ≡ plungeBytes * n = omega (arith, plungeFields-length qs) in
     subst (λ (j : ℕ). Sent pass file at (plungeFields qs) old old (record { at = at + j; like = true })) k
     (sent-counted pass file at (plungeFields qs) old old e)
 
 -- plunges that are counted and no more
-pub sent-counting : (pass : Pass) (file : List ℕ) (at n : ℕ) (qs : List Plunge) (old : List ℕ) → counting pass (at + 7 * n) (length old) ≡ true
-    → n ≡ length qs → Sent pass file at (plungeFields qs) old old (record { at = at + 7 * n; like = true })
+pub sent-counting : (pass : Pass) (file : List ℕ) (at n : ℕ) (qs : List Plunge) (old : List ℕ) → counting pass (at + plungeBytes * n) (length old) ≡ true
+    → n ≡ length qs → Sent pass file at (plungeFields qs) old old (record { at = at + plungeBytes * n; like = true })
 sent-counting Count file at n qs old e g = sent-number Count file at n qs old refl g
 sent-counting Write file at n qs old e g = let z : _≡_ {A = ℕ} 0 1 = cc in absurd (omega arith)
 sent-counting Compare file at n qs old e g = let z : _≡_ {A = ℕ} 0 1 = cc in absurd (omega arith)
 sent-counting Stage file at n qs old e g =
-    let k : length (plungeFields qs) ≡ 7 * n = omega (arith, plungeFields-length qs) in
-    let l : length old < at + 7 * n = ltb-true (length old) (at + 7 * n) e in
+    let k : length (plungeFields qs) ≡ plungeBytes * n = omega (arith, plungeFields-length qs) in
+    let l : length old < at + plungeBytes * n = ltb-true (length old) (at + plungeBytes * n) e in
     subst (λ (j : ℕ). Sent Stage file at (plungeFields qs) old old (record { at = at + j; like = true })) k
     (sent-staged Stage file at (plungeFields qs) old old refl (refl, λ h. absurd (omega (arith, l, k))))
 
@@ -137,8 +140,9 @@ pub sent-as : (pass : Pass) (file : List ℕ) (at : ℕ) (qs os : List Plunge) (
     → Sent pass file at (plungeFields qs) old new t → Sent pass file at (plungeFields os) old new t
 sent-as pass file at qs os old new t e s = subst (λ (l : List Plunge). Sent pass file at (plungeFields l) old new t) e s
 
-pub room-as : (pass : Pass) (at : ℕ) (qs os : List Plunge) (old : List ℕ) → qs ≡ os → Room pass (at + 7 * length qs) old → Room pass (at + 7 * length os) old
-room-as pass at qs os old e h = subst (λ (l : List Plunge). Room pass (at + 7 * length l) old) e h
+pub room-as : (pass : Pass) (at : ℕ) (qs os : List Plunge) (old : List ℕ) → qs ≡ os → Room pass (at + plungeBytes * length qs) old
+    → Room pass (at + plungeBytes * length os) old
+room-as pass at qs os old e h = subst (λ (l : List Plunge). Room pass (at + plungeBytes * length l) old) e h
 
 -- ---- one level
 
@@ -188,19 +192,19 @@ pair-level p m k a b q = go (mod-cases (k + 1))
 
 -- ---- reaches
 
--- a rung number from 1 on is a clearance, and its reach is one less
-pub reach-of : (k : ℕ) → 1 ≤ k → k ≤ 120 → reachOfClearance (record { 0 = k }) ≡ OfReach (record { 0 = k - 1 })
+-- an erosion number from 1 on is a clearance, and its reach is one less
+pub reach-of : (k : ℕ) → 1 ≤ k → k ≤ largestErosion → reachOfClearance (record { 0 = k }) ≡ OfReach (record { 0 = k - 1 })
 reach-of zero h l = absurd (omega arith)
 reach-of (suc n) h l =
-    let g : n ≤ 119 = omega arith in
+    let g : n ≤ largestReach = omega arith in
     let e : suc n - 1 ≡ n = omega arith in
     rw (le-leb _ _ g, e)
 
-pub reach-is : (k : ℕ) (found : MaybeReach) (reach : Reach) → 1 ≤ k → k ≤ 120 → found ≡ reachOfClearance (record { 0 = k }) → found ≡ OfReach reach
+pub reach-is : (k : ℕ) (found : MaybeReach) (reach : Reach) → 1 ≤ k → k ≤ largestErosion → found ≡ reachOfClearance (record { 0 = k }) → found ≡ OfReach reach
     → k - 1 ≡ reach .0
 reach-is k found reach h l e g = let z : OfReach (record { 0 = k - 1 }) ≡ OfReach reach = sym (reach-of k h l) ∙ sym e ∙ g in cc
 
-pub reach-some : (k : ℕ) (found : MaybeReach) → 1 ≤ k → k ≤ 120 → found ≡ reachOfClearance (record { 0 = k }) → found ≡ NoReach → ⊥
+pub reach-some : (k : ℕ) (found : MaybeReach) → 1 ≤ k → k ≤ largestErosion → found ≡ reachOfClearance (record { 0 = k }) → found ≡ NoReach → ⊥
 reach-some k found h l e g = let z : OfReach (record { 0 = k - 1 }) ≡ NoReach = sym (reach-of k h l) ∙ sym e ∙ g in let o : _≡_ {A = ℕ} 0 1 = cc in omega arith
 
 -- what a level asks and sends, by the reach that was found for its number
@@ -211,28 +215,26 @@ module _ (p : Head) (prev cur : List ℕ) (k : ℕ) (reach : Reach) (same : k - 
   pub level-plunges : levelPlunges p prev cur (k - 1) ≡ levelPlunges p prev cur (reach .0)
   level-plunges = ap (levelPlunges p prev cur) same
 
--- ---- the whole climb
+-- ---- the whole listing
 
 -- the listing, level by level
 pub listing-levels : (p : Head) (limit : ℕ) (m : List ℕ) → listing p limit m ≡ gather limit 0 (listedLevel p m)
 unfolding listing
 listing-levels p limit m = refl
 
-pub listed-few : (p : Head) (m : List ℕ) (r : ℕ) → length (listedLevel p m r) ≤ area p
-listed-few p m r = gather-few _ (p .width) (λ y. omega (arith, gather-few (λ x. listedAt p m r x y) 1 (one y) (p .width) 0, mul-one (p .width))) (p .height) 0
-  where
-    few : (t : Bool) (q : Plunge) → length (cond t (q ∷ []) []) ≤ 1
-    few true q = omega arith
-    few false q = omega arith
+-- a listing can be counted in the four bytes of an end field
+pub listing-few : (p : Head) (m : List ℕ) → Sides p → length (listing p largestErosion m) < 4294967296
+listing-few p m s = omega (arith, listing-length p largestErosion m, mul-le-mul (s .low) (s .narrow))
 
-    one : (y x : ℕ) → length (listedAt p m r x y) ≤ 1
-    one y x = few (ltb 0 (residue p m (suc r) (cell x y))) _
-
--- no place of a walk is too large for a length
-pub listing-is-length : (pass : Pass) (file : List ℕ) (p : Head) (m : List ℕ) (old mid : List ℕ) (k place : ℕ) → p .width ≤ 240 → p .height ≤ 240 → k < 120
-    → Sending pass file (listedLevel p m) 6 old k mid place → IsLength (place + 7 * area p)
-listing-is-length pass file p m old mid k place a b h s =
-    omega (arith, sending-fits pass file (listedLevel p m) 6 old k place mid s (area p) 120 (listed-few p m) h, mul-le-mul b a)
+-- no place of a listing is too large for a length
+pub listing-is-length : (pass : Pass) (file : List ℕ) (p : Head) (m : List ℕ) (old mid : List ℕ) (k place : ℕ) → Sides p → k < largestErosion
+    → Sending pass file (listedLevel p m) headBytes old k mid place → IsLength (place + plungeBytes * area p)
+listing-is-length pass file p m old mid k place sides h s =
+    omega (
+      arith,
+      sending-fits pass file (listedLevel p m) headBytes old k place mid s (area p) largestErosion (level-few p m) h,
+      mul-le-mul (sides .low) (sides .narrow),
+    )
 
 -- past an erosion that is 0 everywhere no level has plunges
 pub levels-end : (p : Head) (m : List ℕ) (k limit : ℕ) → k ≤ limit → ((c : Cell) → erosion p m k c ≡ 0)

@@ -13,18 +13,19 @@ use Rattle.geometry.specs.declared.Head.{Head}
 use Rattle.geometry.specs.declared.Plunge.{Plunge}
 use Rattle.geometry.specs.Lists.{gather}
 use Rattle.geometry.specs.Plate.{area}
-use Rattle.theory.proofs.Lists.{gather-split, gather-same}
+use Rattle.theory.proofs.Lists.{gather-split, gather-same, gather-few}
 use Rattle.buffers.specs.Margin.{Margin}
-use Rattle.fields.specs.Fields.{plungeFields}
+use Rattle.fields.specs.Fields.{plungeFields, plungeBytes}
 use Rattle.fields.proofs.Encoding.{plungeFields-append, plungeFields-length}
 use Rattle.residue_marks.specs.Marks.{markAt, markNear, Marked}
 use Rattle.residue_marks.proofs.Marking.{near-inside, at-zero, near-small, near-zero}
 use Rattle.listing_pass.specs.declared.Pass.{Pass}
 use Rattle.listing_pass.specs.declared.Progress.{Progress}
 use Rattle.listing_pass.specs.Sent.{Sent, Room}
-use Rattle.listing_pass.proofs.Passes.{sent-more, sent-stops, gather-parts, gather-turn, gather-few, gather-none, Sending, sending-place, sending-same}
+use Rattle.listing_pass.proofs.Passes.{sent-more, sent-stops, gather-parts, gather-turn, gather-none, Sending, sending-place, sending-same}
 use Rattle.listing_plunges.specs.Rows.{markedPlace, markedAt, marksTo, rowPlunges, placePlunge, levelPlunges}
 use Rattle.listing_plunges.proofs.Plunges.{mark-few, marks-sent, marks-count, place-cell, row-none}
+use Rattle.refusal.specs.Refusals.{largestSide}
 
 -- ---- lists of rows, as lists of places
 
@@ -47,10 +48,10 @@ module _ {A : Type 0} (f : ℕ → List A) where
       ∙ sym (ap (λ (k : ℕ). gather k 0 f) (suc-mul h w) ∙ gather-split (h * w) w 0 f ∙ ap (λ (k : ℕ). gather (h * w) 0 f ++ gather w k f) (zero-add (h * w)))
 
 -- the column and the row of a place, and a row's places
-pub place-small : (n w : ℕ) → 1 ≤ w → w ≤ 240 → n < 240 * w → (n % w < 240) × (n / w < 240)
+pub place-small : (n w : ℕ) → 1 ≤ w → w ≤ largestSide → n < largestSide * w → (n % w < largestSide) × (n / w < largestSide)
 place-small n w a b h = (omega (arith, mod-lt n a), div-lt-iff-lt-mul a .1 h)
 
-pub row-below : (row w : ℕ) → row < 240 → row * w + w ≤ 240 * w
+pub row-below : (row w : ℕ) → row < largestSide → row * w + w ≤ largestSide * w
 row-below row w h = omega (arith, mul-le-mul-right w h, suc-mul row w)
 
 -- ---- one run
@@ -151,7 +152,7 @@ runs-room k w h a b c =
 -- ---- runs of turns
 
 module _ (pass : Pass) (file : List ℕ) (qs : ℕ → List Plunge) (at : ℕ) (old : List ℕ) (n place : ℕ) (mid : List ℕ) (s : Sending pass file qs at old n mid place)
-    (total : ℕ) (room : Room pass (at + 7 * length (gather total 0 qs)) old) (m : ℕ) (within : n + m ≤ total) where
+    (total : ℕ) (room : Room pass (at + plungeBytes * length (gather total 0 qs)) old) (m : ℕ) (within : n + m ≤ total) where
   stretch : gather (n + m) 0 qs ≡ gather n 0 qs ++ gather m n qs
   stretch = gather-split n m 0 qs ∙ ap (λ (k : ℕ). gather n 0 qs ++ gather m k qs) (zero-add n)
 
@@ -166,7 +167,7 @@ module _ (pass : Pass) (file : List ℕ) (qs : ℕ → List Plunge) (at : ℕ) (
       )
 
   -- room for the next turns
-  pub sending-run-room : Room pass (place + 7 * length (gather m n qs)) mid
+  pub sending-run-room : Room pass (place + plungeBytes * length (gather m n qs)) mid
   sending-run-room e = omega (
     arith,
     room e,
@@ -176,7 +177,7 @@ module _ (pass : Pass) (file : List ℕ) (qs : ℕ → List Plunge) (at : ℕ) (
   )
 
   -- where each turn sends one plunge at most, the places stay below a bound
-  pub sending-run-fits : ((j : ℕ) → length (qs j) ≤ 1) → place + 7 * m ≤ at + 7 * total
+  pub sending-run-fits : ((j : ℕ) → length (qs j) ≤ 1) → place + plungeBytes * m ≤ at + plungeBytes * total
   sending-run-fits h = omega (arith, sending-place pass file qs at old n place mid s, gather-few qs 1 h n 0, mul-one n)
 
   module _ (new : List ℕ) (t : Progress) (next : Sent pass file place (plungeFields (gather m n qs)) mid new t) where

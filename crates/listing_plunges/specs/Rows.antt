@@ -1,4 +1,4 @@
--- The plunges of a row, of a run of places and of a level, read off two maps: one with the rung k−1 depths, one with the rung k depths.
+-- Serves proofs: the plunges of a row, of a run of places and of a level, read off two maps: one with the rung k−1 depths, one with the rung k depths.
 use mathlib.Core.Bool.{Bool, true, false, cond}
 use mathlib.Core.List.{List, [], _∷_}
 use Prim.Native.Nat.{ℕ, _+_, _-_, _*_, _%_, _/_}

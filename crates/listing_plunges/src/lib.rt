@@ -15,9 +15,11 @@ ghost use Rattle.theory.specs.Listing.{listing};
 ghost use Rattle.refusal.specs.Refusals.{largestSide, largestErosion};
 ghost use Rattle.buffers.specs.Margin.{Margin};
 ghost use Rattle.buffers.specs.Fill.{PlateOnly};
-ghost use Rattle.fields.specs.Fields.{plungeField, plungeFields};
+ghost use Rattle.fields.specs.Fields.{headBytes, plungeBytes, plungeField, plungeFields};
+ghost use Rattle.fields.specs.Lengths.{IsLength};
 ghost use Rattle.residue_marks.specs.Marks.{markPlaces};
-ghost use Rattle.listing_pass.specs.Sent.{Sent, Room, IsLength};
+ghost use Rattle.listing_pass.specs.Sent.{Sent, Room};
+ghost use Rattle.listing_plunges.specs.Listable.{Listable};
 ghost use Rattle.listing_plunges.specs.Rows.{counting, plungeAtPlace, marksTo, rowPlunges, placePlunge, levelPlunges, pairPlunges};
 
 // Sends the plunge of a place: place n is column n % width of row n / width.
@@ -31,7 +33,7 @@ fn send_place(
     out: &mut [u8],
     at: usize,
 ) -> Progress
-    requires { ⌜ (1 ≤ width) × (width ≤ largestSide) × (n < largestSide * width) × IsLength (at + 7) × Room pass (at + 7) (now out) ⌝ }
+    requires { ⌜ (1 ≤ width) × (width ≤ largestSide) × (n < largestSide * width) × IsLength (at + plungeBytes) × Room pass (at + plungeBytes) (now out) ⌝ }
     ensures { λ r. ⌜ Sent pass (now (file .entry)) at (plungeField (plungeAtPlace width (reach .0) n depth)) (now (out .entry)) (now (out .exit)) r ⌝ }
 {
     let x = (n % width) as u16;
@@ -58,7 +60,7 @@ fn send_marks(
     out: &mut [u8],
     at: usize,
 ) -> Progress
-    requires { ⌜ (1 ≤ width) × (width ≤ largestSide) × (number ≤ largestSide) × (start + number ≤ largestSide * width) × (start + number ≤ length (now prev)) × (length (now flags) ≡ markPlaces) × IsLength (at + 7 * number) × Room pass (at + 7 * length (marksTo number width (now prev) (reach .0) start (now flags))) (now out) ⌝ }
+    requires { ⌜ (1 ≤ width) × (width ≤ largestSide) × (number ≤ largestSide) × (start + number ≤ largestSide * width) × (start + number ≤ length (now prev)) × (length (now flags) ≡ markPlaces) × IsLength (at + plungeBytes * number) × Room pass (at + plungeBytes * length (marksTo number width (now prev) (reach .0) start (now flags))) (now out) ⌝ }
     ensures { λ r. ⌜ Sent pass (now (file .entry)) at (plungeFields (marksTo number width (now (prev .entry)) (reach .0) start (now (flags .entry)))) (now (out .entry)) (now (out .exit)) r ⌝ }
 {
     let mut place = at;
@@ -104,13 +106,13 @@ fn send_some(
     out: &mut [u8],
     at: usize,
 ) -> Progress
-    requires { ⌜ (1 ≤ width) × (width ≤ largestSide) × (number ≤ largestSide) × (start + number ≤ largestSide * width) × (start + number ≤ length (now prev)) × (length (now flags) ≡ markPlaces) × IsLength (at + 7 * number) × (count ≡ length (marksTo number width (now prev) (reach .0) start (now flags))) × (count ≤ number) × Room pass (at + 7 * length (marksTo number width (now prev) (reach .0) start (now flags))) (now out) ⌝ }
+    requires { ⌜ (1 ≤ width) × (width ≤ largestSide) × (number ≤ largestSide) × (start + number ≤ largestSide * width) × (start + number ≤ length (now prev)) × (length (now flags) ≡ markPlaces) × IsLength (at + plungeBytes * number) × (count ≡ length (marksTo number width (now prev) (reach .0) start (now flags))) × (count ≤ number) × Room pass (at + plungeBytes * length (marksTo number width (now prev) (reach .0) start (now flags))) (now out) ⌝ }
     ensures { λ r. ⌜ Sent pass (now (file .entry)) at (plungeFields (marksTo number width (now (prev .entry)) (reach .0) start (now (flags .entry)))) (now (out .entry)) (now (out .exit)) r ⌝ }
 {
     if count == 0 {
         return Progress { at, like: true };
     }
-    let end = at + 7 * (count as usize);
+    let end = at + fields::PLUNGE_BYTES * (count as usize);
     if counts(pass, end, out.len()) {
         return Progress {
             at: end,
@@ -144,7 +146,7 @@ fn send_row(
     flags: &mut [u8; residue_marks::MARK_PLACES],
     at: usize,
 ) -> Progress
-    requires { ⌜ (1 ≤ head .width) × (head .width ≤ largestSide) × (row < largestSide) × (row < head .height) × (area head ≤ length (now prev)) × (area head ≤ length (now cur)) × (length (now flags) ≡ markPlaces) × IsLength (at + 7 * head .width) × Room pass (at + 7 * length (rowPlunges head (now prev) (now cur) (reach .0) row)) (now out) ⌝ }
+    requires { ⌜ (1 ≤ head .width) × (head .width ≤ largestSide) × (row < largestSide) × (row < head .height) × (area head ≤ length (now prev)) × (area head ≤ length (now cur)) × (length (now flags) ≡ markPlaces) × IsLength (at + plungeBytes * head .width) × Room pass (at + plungeBytes * length (rowPlunges head (now prev) (now cur) (reach .0) row)) (now out) ⌝ }
     ensures { λ r. ⌜ (length (now (flags .exit)) ≡ markPlaces) × Sent pass (now (file .entry)) at (plungeFields (rowPlunges head (now (prev .entry)) (now (cur .entry)) (reach .0) row)) (now (out .entry)) (now (out .exit)) r ⌝ }
 {
     let width = head.width as usize;
@@ -176,7 +178,7 @@ fn send_rows(
     out: &mut [u8],
     at: usize,
 ) -> Progress
-    requires { ⌜ (1 ≤ head .width) × (head .width ≤ largestSide) × (head .height ≤ largestSide) × (area head ≤ length (now prev)) × (area head ≤ length (now cur)) × IsLength (at + 7 * area head) × Room pass (at + 7 * length (levelPlunges head (now prev) (now cur) (reach .0))) (now out) ⌝ }
+    requires { ⌜ (1 ≤ head .width) × (head .width ≤ largestSide) × (head .height ≤ largestSide) × (area head ≤ length (now prev)) × (area head ≤ length (now cur)) × IsLength (at + plungeBytes * area head) × Room pass (at + plungeBytes * length (levelPlunges head (now prev) (now cur) (reach .0))) (now out) ⌝ }
     ensures { λ r. ⌜ Sent pass (now (file .entry)) at (plungeFields (levelPlunges head (now (prev .entry)) (now (cur .entry)) (reach .0))) (now (out .entry)) (now (out .exit)) r ⌝ }
 {
     let height = head.height;
@@ -222,7 +224,7 @@ fn send_run(
     flags: &mut [u8; residue_marks::MARK_PLACES],
     at: usize,
 ) -> Progress
-    requires { ⌜ (1 ≤ head .width) × (head .width ≤ largestSide) × (head .height ≤ largestSide) × (head .width + 1 ≤ start) × (number ≤ largestSide) × (start + number + head .width + 1 ≤ area head) × (area head ≤ length (now prev)) × (area head ≤ length (now cur)) × (length (now flags) ≡ markPlaces) × IsLength (at + 7 * number) × Room pass (at + 7 * length (gather number start (placePlunge head (now prev) (now cur) (reach .0)))) (now out) ⌝ }
+    requires { ⌜ (1 ≤ head .width) × (head .width ≤ largestSide) × (head .height ≤ largestSide) × (head .width + 1 ≤ start) × (number ≤ largestSide) × (start + number + head .width + 1 ≤ area head) × (area head ≤ length (now prev)) × (area head ≤ length (now cur)) × (length (now flags) ≡ markPlaces) × IsLength (at + plungeBytes * number) × Room pass (at + plungeBytes * length (gather number start (placePlunge head (now prev) (now cur) (reach .0)))) (now out) ⌝ }
     ensures { λ r. ⌜ (length (now (flags .exit)) ≡ markPlaces) × Sent pass (now (file .entry)) at (plungeFields (gather number start (placePlunge head (now (prev .entry)) (now (cur .entry)) (reach .0)))) (now (out .entry)) (now (out .exit)) r ⌝ }
 {
     let kind = head.kind;
@@ -265,7 +267,7 @@ fn send_runs(
     out: &mut [u8],
     at: usize,
 ) -> Progress
-    requires { ⌜ (1 ≤ reach .0) × (head .width ≤ largestSide) × (head .height ≤ largestSide) × (area head ≤ length (now prev)) × (area head ≤ length (now cur)) × Margin head (reach .0) (now prev) × IsLength (at + 7 * area head) × Room pass (at + 7 * length (levelPlunges head (now prev) (now cur) (reach .0))) (now out) ⌝ }
+    requires { ⌜ (1 ≤ reach .0) × (head .width ≤ largestSide) × (head .height ≤ largestSide) × (area head ≤ length (now prev)) × (area head ≤ length (now cur)) × Margin head (reach .0) (now prev) × IsLength (at + plungeBytes * area head) × Room pass (at + plungeBytes * length (levelPlunges head (now prev) (now cur) (reach .0))) (now out) ⌝ }
     ensures { λ r. ⌜ Sent pass (now (file .entry)) at (plungeFields (levelPlunges head (now (prev .entry)) (now (cur .entry)) (reach .0))) (now (out .entry)) (now (out .exit)) r ⌝ }
 {
     let width = head.width as usize;
@@ -319,7 +321,7 @@ fn send_reach(
     out: &mut [u8],
     at: usize,
 ) -> Progress
-    requires { ⌜ (1 ≤ head .width) × (head .width ≤ largestSide) × (head .height ≤ largestSide) × (area head ≤ length (now prev)) × (area head ≤ length (now cur)) × Margin head (reach .0) (now prev) × IsLength (at + 7 * area head) × Room pass (at + 7 * length (levelPlunges head (now prev) (now cur) (reach .0))) (now out) ⌝ }
+    requires { ⌜ (1 ≤ head .width) × (head .width ≤ largestSide) × (head .height ≤ largestSide) × (area head ≤ length (now prev)) × (area head ≤ length (now cur)) × Margin head (reach .0) (now prev) × IsLength (at + plungeBytes * area head) × Room pass (at + plungeBytes * length (levelPlunges head (now prev) (now cur) (reach .0))) (now out) ⌝ }
     ensures { λ r. ⌜ Sent pass (now (file .entry)) at (plungeFields (levelPlunges head (now (prev .entry)) (now (cur .entry)) (reach .0))) (now (out .entry)) (now (out .exit)) r ⌝ }
 {
     if reach.0 == 0 {
@@ -339,7 +341,7 @@ fn send_level(
     out: &mut [u8],
     at: usize,
 ) -> Progress
-    requires { ⌜ (1 ≤ k) × (k ≤ largestErosion) × (1 ≤ head .width) × (head .width ≤ largestSide) × (head .height ≤ largestSide) × (area head ≤ length (now prev)) × (area head ≤ length (now cur)) × Margin head (k - 1) (now prev) × IsLength (at + 7 * area head) × Room pass (at + 7 * length (levelPlunges head (now prev) (now cur) (k - 1))) (now out) ⌝ }
+    requires { ⌜ (1 ≤ k) × (k ≤ largestErosion) × (1 ≤ head .width) × (head .width ≤ largestSide) × (head .height ≤ largestSide) × (area head ≤ length (now prev)) × (area head ≤ length (now cur)) × Margin head (k - 1) (now prev) × IsLength (at + plungeBytes * area head) × Room pass (at + plungeBytes * length (levelPlunges head (now prev) (now cur) (k - 1))) (now out) ⌝ }
     ensures { λ r. ⌜ Sent pass (now (file .entry)) at (plungeFields (levelPlunges head (now (prev .entry)) (now (cur .entry)) (k - 1))) (now (out .entry)) (now (out .exit)) r ⌝ }
 {
     let found = Reach::of_clearance(Clearance(k as u8));
@@ -360,7 +362,7 @@ fn send_pair(
     out: &mut [u8],
     at: usize,
 ) -> Progress
-    requires { ⌜ (1 ≤ k) × (k ≤ largestErosion) × (1 ≤ head .width) × (head .width ≤ largestSide) × (head .height ≤ largestSide) × (area head ≤ length (now a)) × (area head ≤ length (now b)) × (k % 2 ≡ 0 → Margin head (k - 1) (now b)) × (k % 2 ≡ 1 → Margin head (k - 1) (now a)) × IsLength (at + 7 * area head) × Room pass (at + 7 * length (pairPlunges head k (now a) (now b))) (now out) ⌝ }
+    requires { ⌜ (1 ≤ k) × (k ≤ largestErosion) × (1 ≤ head .width) × (head .width ≤ largestSide) × (head .height ≤ largestSide) × (area head ≤ length (now a)) × (area head ≤ length (now b)) × (k % 2 ≡ 0 → Margin head (k - 1) (now b)) × (k % 2 ≡ 1 → Margin head (k - 1) (now a)) × IsLength (at + plungeBytes * area head) × Room pass (at + plungeBytes * length (pairPlunges head k (now a) (now b))) (now out) ⌝ }
     ensures { λ r. ⌜ Sent pass (now (file .entry)) at (plungeFields (pairPlunges head k (now (a .entry)) (now (b .entry)))) (now (out .entry)) (now (out .exit)) r ⌝ }
 {
     if k % 2 == 0 {
@@ -369,7 +371,7 @@ fn send_pair(
     send_level(head, pass, k, a, b, file, out, at)
 }
 
-// Sends the whole listing of a relief from place 6 on: rung after rung, up to one that is 0 everywhere, or to the first byte that is unlike.
+// Sends the whole listing of a relief from behind the head on: rung after rung, up to one that is 0 everywhere, or to the first byte that is unlike.
 pub fn send_listing(
     head: Head,
     pass: Pass,
@@ -379,13 +381,13 @@ pub fn send_listing(
     a: &mut [u8],
     b: &mut [u8],
 ) -> Progress
-    requires { ⌜ (1 ≤ head .width) × (head .width ≤ largestSide) × (head .height ≤ largestSide) × (area head ≤ length (now relief)) × (area head ≤ length (now a)) × (area head ≤ length (now b)) × Room pass (6 + 7 * length (listing head largestErosion (now relief))) (now out) ⌝ }
-    ensures { λ r. ⌜ Sent pass (now (file .entry)) 6 (plungeFields (listing head largestErosion (now (relief .entry)))) (now (out .entry)) (now (out .exit)) r × PlateOnly head (now (a .entry)) (now (a .exit)) × PlateOnly head (now (b .entry)) (now (b .exit)) ⌝ }
+    requires { ⌜ Listable head (now relief) (now a) (now b) × Room pass (headBytes + plungeBytes * length (listing head largestErosion (now relief))) (now out) ⌝ }
+    ensures { λ r. ⌜ Sent pass (now (file .entry)) headBytes (plungeFields (listing head largestErosion (now (relief .entry)))) (now (out .entry)) (now (out .exit)) r × PlateOnly head (now (a .entry)) (now (a .exit)) × PlateOnly head (now (b .entry)) (now (b .exit)) ⌝ }
 {
     let cells = (head.height as usize) * (head.width as usize);
     let last = refusal::LARGEST_EROSION as usize;
     buffers::copy_run(relief, a, cells);
-    let mut place = 6;
+    let mut place = fields::HEAD_BYTES;
     let mut k = 0;
     while k < last {
         let top = erosion_series::step_pair(head, k, a, b);

@@ -14,13 +14,14 @@ use Rattle.refusal.specs.declared.Verdict.{Verdict}
 use Rattle.refusal.specs.declared.Verdict.the-variants.{Accepted, Refused}
 use Rattle.refusal.specs.Refusals.{firstMet}
 use Rattle.reading.specs.declared.MaybePlunge.the-variants.{OfPlunge, NoPlunge}
-use Rattle.reading.specs.Reading.{IsReadable, fileTrials, plungeAt, place, total}
+use Rattle.reading.specs.Reading.{IsReadable, fileTrials, plungeAt, total}
 use Rattle.reading.specs.Steps.{plungeIf}
 use Rattle.reading.proofs.Answers.{after-file, file-fault}
 use Rattle.motion.specs.declared.Scale.{Scale}
 use Rattle.motion.specs.declared.Motions.{Motions}
 use Rattle.motion.specs.declared.MotionAnswer.the-variants.{Moves, NoMoves}
 use Rattle.motion.specs.Motions.{scaleInRange, motionsOf, plungeNumber, changes, motionVerdict, motionAnswer, motionsIn}
+use Rattle.fields.specs.Fields.{place}
 
 -- a field whose reach is one gives its plunge
 pub is-plunge : (f : List ℕ) (at : ℕ) → getD f (at + 5) 0 ≤ largestReach → plungeIf f at ≡ OfPlunge (plungeAt f at)

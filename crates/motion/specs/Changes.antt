@@ -1,4 +1,4 @@
--- How many changes of the electrode a whole list asks for.
+-- To be believed: how many changes of the electrode a whole list asks for.
 use mathlib.Core.Bool.{cond}
 use mathlib.Core.List.{List, [], _∷_}
 use Prim.Native.Nat.{ℕ, zero, suc, _+_}

@@ -1,4 +1,4 @@
--- Press motions, in IEEE 754 binary64 (document 01, "Press motions").
+-- To be believed: press motions, in IEEE 754 binary64 (document 01, "Press motions").
 use mathlib.Core.Bool.{Bool, true, false, cond, not}
 use mathlib.Core.List.{List, [], _∷_, _++_}
 use Prim.Native.Nat.{ℕ, _+_, _-_, _*_}
@@ -8,7 +8,8 @@ use Rattle.geometry.specs.declared.Plunge.{Plunge}
 use Rattle.refusal.specs.declared.Verdict.{Verdict}
 use Rattle.refusal.specs.declared.Verdict.the-variants.{Accepted, Refused}
 use Rattle.refusal.specs.Refusals.{trial, firstMet}
-use Rattle.reading.specs.Reading.{fileTrials, plungeAt, place, total}
+use Rattle.fields.specs.Fields.{place}
+use Rattle.reading.specs.Reading.{fileTrials, headIn, plungeAt, total}
 use Rattle.sink.specs.Sink.{whole, sinkMillimetres}
 use Rattle.motion.specs.declared.Scale.{Scale}
 use Rattle.motion.specs.declared.Motion.the-variants.{Change, Stay, Travel, Sink}
@@ -56,7 +57,7 @@ motionsOf s changed q =
 
 -- plunge number i of a file
 abbrev pub plungeNumber : List ℕ → ℕ → Plunge
-plungeNumber f i = plungeAt f (place i)
+plungeNumber f i = plungeAt f (place (headIn f) i)
 
 -- "Change comes for i = 0 or where the reach differs from plunge i−1"
 abbrev pub changes : List ℕ → ℕ → Bool

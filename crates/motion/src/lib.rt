@@ -1,6 +1,8 @@
 // Press motions: what the press does for one plunge of a file, in millimetres, to the last bit.
+use geometry::Head;
 use geometry::Plunge;
 use geometry::Reach;
+use reading::Job;
 use reading::MaybePlunge;
 use reading::ReadAnswer;
 use refusal::Refusal;
@@ -10,7 +12,9 @@ ghost use Prim.Native.Nat.{_+_, _-_, _*_, _≤_, _<_};
 ghost use lib.Dec.{eqb};
 ghost use lib.ListN.{length, getD};
 ghost use Rattle.geometry.specs.Forms.{largestReach};
-ghost use Rattle.reading.specs.Reading.{plungeAt, place, total, IsReadable};
+ghost use Rattle.fields.specs.Fields.{plungeBytes, place};
+ghost use Rattle.reading.specs.Reading.{total, IsReadable};
+ghost use Rattle.reading.specs.Steps.{JobOf};
 ghost use Rattle.motion.specs.Motions.{within, scaleInRange, changeWidth, travelTo, motionsOf, plungeNumber, changes, motionsIn};
 
 // Millimetres: half the pitch of the cells, and where column 0 and row 0 begin.
@@ -109,11 +113,11 @@ pub fn motions_of(scale: Scale, changed: bool, q: Plunge) -> Motions
 // ---- the call
 
 // Plunge number i, read where its field stands.
-fn plunge_number(file: &[u8], i: usize) -> Plunge
-    requires { ⌜ (place i + 7 ≤ length (now file)) × (getD (now file) (place i + 5) 0 ≤ largestReach) ⌝ }
+fn plunge_number(head: Head, file: &[u8], i: usize) -> Plunge
+    requires { ⌜ (place head i + plungeBytes ≤ length (now file)) × (getD (now file) (place head i + 5) 0 ≤ largestReach) ⌝ }
     ensures { λ r. ⌜ r ≡ plungeNumber (now (file .entry)) i ⌝ }
 {
-    let found = reading::plunge_at(file, 6 + 7 * i);
+    let found = reading::nth_plunge(head, file, i);
     match found {
         MaybePlunge::OfPlunge(q) => q,
         MaybePlunge::NoPlunge => Plunge {
@@ -126,21 +130,21 @@ fn plunge_number(file: &[u8], i: usize) -> Plunge
 }
 
 // Whether the electrode changes before plunge number i.
-fn is_changed(file: &[u8], i: usize) -> bool
+fn is_changed(head: Head, file: &[u8], i: usize) -> bool
     requires { ⌜ IsReadable (now file) × (i < total (now file)) ⌝ }
     ensures { λ r. ⌜ r ≡ changes (now (file .entry)) i ⌝ }
 {
     if i == 0 {
         return true;
     }
-    let q = plunge_number(file, i);
-    let before = plunge_number(file, i - 1);
+    let q = plunge_number(head, file, i);
+    let before = plunge_number(head, file, i - 1);
     q.reach.0 != before.reach.0
 }
 
 // Refusals 13 and 14, then the motions of plunge number i of a readable file: for a caller that read it once and asks for many.
-pub fn motions_at(file: &[u8], plunges: usize, i: usize, scale: Scale) -> MotionAnswer
-    requires { ⌜ IsReadable (now file) × (plunges ≡ total (now file)) ⌝ }
+pub fn motions_at(file: &[u8], job: Job, i: usize, scale: Scale) -> MotionAnswer
+    requires { ⌜ JobOf (now file) job ⌝ }
     ensures { λ r. ⌜ r ≡ motionsIn (now (file .entry)) i scale ⌝ }
 {
     if !in_range(scale) {
@@ -149,14 +153,15 @@ pub fn motions_at(file: &[u8], plunges: usize, i: usize, scale: Scale) -> Motion
             place: 0,
         });
     }
-    if plunges <= i {
+    if job.plunges <= i {
         return MotionAnswer::NoMoves(Refusal {
             number: 14,
             place: 0,
         });
     }
-    let changed = is_changed(file, i);
-    let q = plunge_number(file, i);
+    let head = job.head;
+    let changed = is_changed(head, file, i);
+    let q = plunge_number(head, file, i);
     MotionAnswer::Moves(motions_of(scale, changed, q))
 }
 
@@ -167,6 +172,6 @@ pub fn plunge_motions(file: &[u8], i: usize, scale: Scale) -> MotionAnswer
     let answer = reading::read(file);
     match answer {
         ReadAnswer::Unreadable(r) => MotionAnswer::NoMoves(r),
-        ReadAnswer::Readable(job) => motions_at(file, job.plunges, i, scale),
+        ReadAnswer::Readable(job) => motions_at(file, job, i, scale),
     }
 }

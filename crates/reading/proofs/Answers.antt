@@ -13,9 +13,11 @@ use Rattle.refusal.specs.declared.Verdict.the-variants.{Accepted, Refused}
 use Rattle.refusal.specs.Refusals.{Trial, firstMet}
 use Rattle.reading.specs.declared.Job.{Job}
 use Rattle.reading.specs.declared.ReadAnswer.the-variants.{Readable, Unreadable}
-use Rattle.reading.specs.Reading.{IsReadable, fileTrials, headIn, plungeAt, place, total, readAnswer}
+use Rattle.reading.specs.Reading.{IsReadable, fileTrials, headIn, plungeAt, total, readAnswer, read}
 use Rattle.reading.proofs.Steps.{andThen, first-append, both-accepted, wide-ball}
 use Rattle.reading.proofs.Readable.{readable-sound}
+use Rattle.fields.specs.Fields.{plungeBytes, place}
+use Rattle.reading.specs.Steps.{JobOf}
 
 -- ---- the file's faults first
 
@@ -35,25 +37,24 @@ pub read-refused : (v : Verdict) (f : List ℕ) (r : Refusal) → Unreadable r �
 read-refused Accepted f r e = let z : _≡_ {A = ℕ} 0 1 = cc in absurd (omega arith)
 read-refused (Refused q) f r e = ap Refused cc
 
-pub record WasRead (v : Verdict) (f : List ℕ) (j : Job) : Type 0 where
-  pub verdict : v ≡ Accepted
-  pub head : j .head ≡ headIn f
-  pub plunges : j .plunges ≡ total f
-
-pub read-accepted : (v : Verdict) (f : List ℕ) (j : Job) → Readable j ≡ readAnswer v f → WasRead v f j
-read-accepted Accepted f j e = record { verdict = refl; head = cc; plunges = cc }
-read-accepted (Refused q) f j e = let z : _≡_ {A = ℕ} 0 1 = cc in absurd (omega arith)
+pub read-accepted : (f : List ℕ) (j : Job) → Readable j ≡ read f → JobOf f j
+read-accepted f j = go (firstMet (fileTrials f)) refl
+  where
+    go : (v : Verdict) → firstMet (fileTrials f) ≡ v → Readable j ≡ readAnswer v f → JobOf f j
+    go Accepted r e = record { readable = r; head = cc; plunges = cc }
+    go (Refused q) r e = let z : _≡_ {A = ℕ} 0 1 = cc in absurd (omega arith)
 
 -- ---- a plunge by its number
 
 -- its field lies in the file, and its reach is one
-pub plunge-asks : (f : List ℕ) (i : ℕ) → IsReadable f → i < total f → (place i + 7 ≤ length f) × (getD f (place i + 5) 0 ≤ largestReach)
-plunge-asks f i ok h = (omega (arith, readable-sound f ok .room), go (decLe (getD f (place i + 5) 0) largestReach))
+pub plunge-asks : (f : List ℕ) (i : ℕ) → IsReadable f → i < total f → (place (headIn f) i + plungeBytes ≤ length f)
+    × (getD f (place (headIn f) i + 5) 0 ≤ largestReach)
+plunge-asks f i ok h = (omega (arith, readable-sound f ok .room), go (decLe (getD f (place (headIn f) i + 5) 0) largestReach))
   where
-    go : Dec (getD f (place i + 5) 0 ≤ largestReach) → getD f (place i + 5) 0 ≤ largestReach
+    go : Dec (getD f (place (headIn f) i + 5) 0 ≤ largestReach) → getD f (place (headIn f) i + 5) 0 ≤ largestReach
     go (yes l) = l
     go (no l) =
         let s = readable-sound f ok in
-        let e : _≡_ {A = Bool} true false = sym (s .fits i h) ∙ wide-ball (headIn f) (plungeAt f (place i)) (s .narrow) (omega arith) in
+        let e : _≡_ {A = Bool} true false = sym (s .fits i h) ∙ wide-ball (headIn f) (plungeAt f (place (headIn f) i)) (s .sides .narrow) (omega arith) in
         let z : _≡_ {A = ℕ} 0 1 = cc in
         absurd (omega arith)

@@ -17,7 +17,7 @@ use Rattle.geometry.specs.declared.Plunge.{Plunge}
 use Rattle.geometry.specs.declared.MaybeKind.the-variants.{OfKind, NoKind}
 use Rattle.geometry.specs.Forms.{kindByte, kindOf}
 use Rattle.refusal.specs.Refusals.{badKind, isNone, kindNamed}
-use Rattle.fields.specs.Fields.{two, four, headField, plungeField, endField}
+use Rattle.fields.specs.Fields.{two, four, headField, plungeField, endField, headTag, headSize, headBytes, plungeBytes}
 use Rattle.reading.specs.Reading.{lengthAt, opens, headIn, isPlunge, plungeAt, isEnd, numberAt}
 
 -- ---- a field that opens
@@ -34,7 +34,7 @@ module _ (f : List ℕ) where
   abbrev b : ℕ → ℕ
   b i = getD f i 0
 
-  six-bytes : 6 ≤ length f → f ≡ b 0 ∷ b 1 ∷ b 2 ∷ b 3 ∷ b 4 ∷ b 5 ∷ drop 6 f
+  six-bytes : headBytes ≤ length f → f ≡ b 0 ∷ b 1 ∷ b 2 ∷ b 3 ∷ b 4 ∷ b 5 ∷ drop headBytes f
   six-bytes h =
       drop-cons f 0 0 (omega arith) ∙ ap (λ l. b 0 ∷ l) (drop-cons f 1 0 (omega arith)) ∙ ap (λ l. b 0 ∷ b 1 ∷ l) (drop-cons f 2 0 (omega arith))
       ∙ ap (λ l. b 0 ∷ b 1 ∷ b 2 ∷ l) (drop-cons f 3 0 (omega arith)) ∙ ap (λ l. b 0 ∷ b 1 ∷ b 2 ∷ b 3 ∷ l) (drop-cons f 4 0 (omega arith))
@@ -58,8 +58,8 @@ module _ (f : List ℕ) where
       (drop-cons f (suc (suc (suc (suc (suc at))))) 0 (omega arith)
       ∙ ap (λ l. b (suc (suc (suc (suc (suc at))))) ∷ l) (drop-cons f (suc (suc (suc (suc (suc (suc at)))))) 0 (omega arith)))))))
 
-  seven-bytes : (at : ℕ) → at + 7 ≤ length f
-      → drop at f ≡ b at ∷ b (at + 1) ∷ b (at + 2) ∷ b (at + 3) ∷ b (at + 4) ∷ b (at + 5) ∷ b (at + 6) ∷ drop (at + 7) f
+  seven-bytes : (at : ℕ) → at + plungeBytes ≤ length f
+      → drop at f ≡ b at ∷ b (at + 1) ∷ b (at + 2) ∷ b (at + 3) ∷ b (at + 4) ∷ b (at + 5) ∷ b (at + 6) ∷ drop (at + plungeBytes) f
   seven-bytes at h =
       rw (add-one at, add-two at, add-three at, add-four at, add-five at, add-six at, add-seven at) (suc-bytes at (omega arith))
 
@@ -78,22 +78,25 @@ cond-kind k = go (eqb k 4) (eqb k 8) refl refl
 pub head-kind : (f : List ℕ) → badKind (getD f 3 0) ≡ false → kindByte (headIn f .kind) ≡ getD f 3 0
 head-kind f e = cond-kind (getD f 3 0) e
 
-pub head-bytes : (f : List ℕ) → 6 ≤ length f → opens 1 3 f 0 ≡ true → badKind (getD f 3 0) ≡ false → f ≡ headField (headIn f) ++ drop 6 f
+pub head-bytes : (f : List ℕ) → headBytes ≤ length f → opens headTag headSize f 0 ≡ true → badKind (getD f 3 0) ≡ false → f ≡ headField (headIn f)
+    ++ drop headBytes f
 head-bytes f h e k =
     let t = opens-bytes 1 3 f 0 e in
     let tag : getD f 0 0 ≡ 1 = t .0 in
     let high : getD f 1 0 ≡ 0 = omega (arith, t .1) in
     let low : getD f 2 0 ≡ 3 = omega (arith, t .1) in
     let kind : getD f 3 0 ≡ kindByte (headIn f .kind) = sym (head-kind f k) in
-    six-bytes f h ∙ (λ i. tag i ∷ high i ∷ low i ∷ kind i ∷ getD f 4 0 ∷ getD f 5 0 ∷ drop 6 f)
+    six-bytes f h ∙ (λ i. tag i ∷ high i ∷ low i ∷ kind i ∷ getD f 4 0 ∷ getD f 5 0 ∷ drop headBytes f)
 
-pub plunge-bytes : (f : List ℕ) (at : ℕ) → at + 7 ≤ length f → isPlunge f at ≡ true → drop at f ≡ plungeField (plungeAt f at) ++ drop (at + 7) f
+pub plunge-bytes : (f : List ℕ) (at : ℕ) → at + plungeBytes ≤ length f → isPlunge f at ≡ true → drop at f ≡ plungeField (plungeAt f at)
+    ++ drop (at + plungeBytes) f
 plunge-bytes f at h e =
     let t = opens-bytes 2 4 f at e in
     let tag : getD f at 0 ≡ 2 = t .0 in
     let high : getD f (at + 1) 0 ≡ 0 = omega (arith, t .1) in
     let low : getD f (at + 2) 0 ≡ 4 = omega (arith, t .1) in
-    seven-bytes f at h ∙ (λ i. tag i ∷ high i ∷ low i ∷ getD f (at + 3) 0 ∷ getD f (at + 4) 0 ∷ getD f (at + 5) 0 ∷ getD f (at + 6) 0 ∷ drop (at + 7) f)
+    seven-bytes f at h ∙ (λ i. tag i ∷ high i ∷ low i ∷ getD f (at + 3) 0 ∷ getD f (at + 4) 0 ∷ getD f (at + 5) 0 ∷ getD f (at + 6) 0
+    ∷ drop (at + plungeBytes) f)
 
 -- a number of two bytes, and of four
 two-of : (x y : ℕ) → x < 256 → y < 256 → two (256 * x + y) ≡ x ∷ y ∷ []
@@ -108,8 +111,8 @@ four-of x y z w a b c d =
     let low : (65536 * (256 * x + y) + (256 * z + w)) % 65536 ≡ 256 * z + w = omega arith in
     (λ i. two (high i) ++ two (low i)) ∙ (λ i. two-of x y a b i ++ two-of z w c d i)
 
-pub end-bytes : (f : List ℕ) (at : ℕ) → at + 7 ≤ length f → isEnd f at ≡ true → ((i : ℕ) → getD f i 0 < 256) → drop at f ≡ endField (numberAt f at)
-    ++ drop (at + 7) f
+pub end-bytes : (f : List ℕ) (at : ℕ) → at + plungeBytes ≤ length f → isEnd f at ≡ true → ((i : ℕ) → getD f i 0 < 256) → drop at f ≡ endField (numberAt f at)
+    ++ drop (at + plungeBytes) f
 end-bytes f at h e bytes =
     let t = opens-bytes 3 4 f at e in
     let tag : getD f at 0 ≡ 3 = t .0 in
@@ -117,7 +120,7 @@ end-bytes f at h e bytes =
     let low : getD f (at + 2) 0 ≡ 4 = omega (arith, t .1) in
     let number = four-of (getD f (at + 3) 0) (getD f (at + 4) 0) (getD f (at + 5) 0) (getD f (at + 6) 0) (bytes (at + 3)) (bytes (at + 4))
     (bytes (at + 5)) (bytes (at + 6)) in
-    seven-bytes f at h ∙ (λ i. tag i ∷ high i ∷ low i ∷ (sym number i ++ drop (at + 7) f))
+    seven-bytes f at h ∙ (λ i. tag i ∷ high i ∷ low i ∷ (sym number i ++ drop (at + plungeBytes) f))
 
 pub number-below : (f : List ℕ) (at : ℕ) → ((i : ℕ) → getD f i 0 < 256) → numberAt f at < 4294967296
 number-below f at bytes = omega (arith, bytes (at + 3), bytes (at + 4), bytes (at + 5), bytes (at + 6))

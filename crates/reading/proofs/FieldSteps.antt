@@ -15,9 +15,10 @@ use Rattle.refusal.specs.Refusals.{Trial, firstMet, largestSide, headOf}
 use Rattle.reading.specs.declared.Step.{Step}
 use Rattle.reading.specs.declared.Step.the-variants.{Onward, Ended, Fault}
 use Rattle.reading.specs.declared.ReadAnswer.the-variants.{Readable, Unreadable}
-use Rattle.reading.specs.Reading.{headIn, isEnd, isPlunge, plungeAt, numberAt, headTrials, plungeTrials, endTrials, place, fieldTrials, fieldsFrom, fileTrials, total, readAnswer, read}
+use Rattle.reading.specs.Reading.{headIn, isEnd, isPlunge, plungeAt, numberAt, headTrials, plungeTrials, endTrials, fieldTrials, fieldsFrom, fileTrials, total, readAnswer, read}
 use Rattle.reading.specs.Steps.{stepOf, stepAt}
 use Rattle.reading.proofs.Steps.{andThen, first-append, head-right, field-right, right-plunge, right-end}
+use Rattle.fields.specs.Fields.{headBytes, plungeBytes, endBytes, place}
 
 -- ---- one field, and those after it
 
@@ -30,7 +31,7 @@ afterStep (Fault r) v = Refused r
 pub fields-step : (more : ℕ) (p : Head) (f : List ℕ) (n : ℕ)
     → firstMet (fieldsFrom (suc more) p f n) ≡ afterStep (stepAt p f n) (firstMet (fieldsFrom more p f (suc n)))
 unfolding fieldsFrom
-fields-step more p f n = first-append (fieldTrials p f n) (cond (isEnd f (place n)) [] (fieldsFrom more p f (suc n))) ∙ go (isEnd f (place n))
+fields-step more p f n = first-append (fieldTrials p f n) (cond (isEnd f (place p n)) [] (fieldsFrom more p f (suc n))) ∙ go (isEnd f (place p n))
     (firstMet (fieldTrials p f n)) (fieldsFrom more p f (suc n))
   where
     go : (b : Bool) (v : Verdict) (rest : List Trial) → andThen v (firstMet (cond b [] rest)) ≡ afterStep (stepOf (cond b Ended Onward) v) (firstMet rest)
@@ -50,42 +51,42 @@ ended-by b (Refused r) e = let z : _≡_ {A = ℕ} 0 1 = cc in absurd (omega ari
 
 -- what a right plunge's field has
 pub record Passed (p : Head) (f : List ℕ) (n : ℕ) : Type 0 where
-  pub room : place n + 7 ≤ length f
-  pub tagged : isPlunge f (place n) ≡ true
-  pub fits : fitsPlate p (plungeAt f (place n)) ≡ true
-  pub deep : 1 ≤ plungeAt f (place n) .depth
+  pub room : place p n + plungeBytes ≤ length f
+  pub tagged : isPlunge f (place p n) ≡ true
+  pub fits : fitsPlate p (plungeAt f (place p n)) ≡ true
+  pub deep : 1 ≤ plungeAt f (place p n) .depth
 
 pub onward : (p : Head) (f : List ℕ) (n : ℕ) → stepAt p f n ≡ Onward → Passed p f n
 onward p f n e =
-    let t = onward-by (isEnd f (place n)) (firstMet (fieldTrials p f n)) e in
+    let t = onward-by (isEnd f (place p n)) (firstMet (fieldTrials p f n)) e in
     let s = field-right p f n (t .1) in
-    let c = right-plunge p f (place n) (ap (λ b. firstMet (cond b (endTrials f (place n) n) (plungeTrials p f (place n)))) (sym (t .0)) ∙ s .2) in
-    record { room = s .0; tagged = ap (λ b. cond b true (isPlunge f (place n))) (sym (t .0)) ∙ s .1; fits = c .0; deep = c .1 }
+    let c = right-plunge p f (place p n) (ap (λ b. firstMet (cond b (endTrials f (place p n) n) (plungeTrials p f (place p n)))) (sym (t .0)) ∙ s .2) in
+    record { room = s .0; tagged = ap (λ b. cond b true (isPlunge f (place p n))) (sym (t .0)) ∙ s .1; fits = c .0; deep = c .1 }
 
 -- what the right end field has
 pub record Closed (f : List ℕ) (n : ℕ) : Type 0 where
-  pub tagged : isEnd f (place n) ≡ true
-  pub number : numberAt f (place n) ≡ n
-  pub whole : length f ≡ place n + 7
+  pub tagged : isEnd f (place (headIn f) n) ≡ true
+  pub number : numberAt f (place (headIn f) n) ≡ n
+  pub whole : length f ≡ place (headIn f) n + endBytes
 
 pub ended : (p : Head) (f : List ℕ) (n : ℕ) → stepAt p f n ≡ Ended → Closed f n
 ended p f n e =
-    let t = ended-by (isEnd f (place n)) (firstMet (fieldTrials p f n)) e in
+    let t = ended-by (isEnd f (place p n)) (firstMet (fieldTrials p f n)) e in
     let s = field-right p f n (t .1) in
-    let c = right-end f (place n) n (ap (λ b. firstMet (cond b (endTrials f (place n) n) (plungeTrials p f (place n)))) (sym (t .0)) ∙ s .2) in
+    let c = right-end f (place p n) n (ap (λ b. firstMet (cond b (endTrials f (place p n) n) (plungeTrials p f (place p n)))) (sym (t .0)) ∙ s .2) in
     record { tagged = t .0; number = c .0; whole = omega (arith, s .0, c .1) }
 
-pub whole-total : (f : List ℕ) (n : ℕ) → length f ≡ place n + 7 → total f ≡ n
+pub whole-total : (f : List ℕ) (n : ℕ) → length f ≡ place (headIn f) n + endBytes → total f ≡ n
 whole-total f n e = omega arith
 
 -- ---- the loop
 
 -- n plunges are read, and what is left decides the verdict
 pub record Reading (p : Head) (f : List ℕ) (n : ℕ) : Type 0 where
-  pub within : place n ≤ length f
+  pub within : place p n ≤ length f
   pub rest : firstMet (fieldsFrom (suc (length f) - n) p f n) ≡ firstMet (fieldsFrom (suc (length f)) p f 0)
 
-pub begun : (p : Head) (f : List ℕ) → 6 ≤ length f → Reading p f 0
+pub begun : (p : Head) (f : List ℕ) → headBytes ≤ length f → Reading p f 0
 begun p f h =
     let e : suc (length f) - 0 ≡ suc (length f) = omega arith in
     record { within = h; rest = ap (λ (k : ℕ). firstMet (fieldsFrom k p f 0)) e }
@@ -125,7 +126,7 @@ pub head-is : (f : List ℕ) (h : Head) (x y : ℕ) → h ≡ headOf (getD f 3 0
 head-is f h x y e a b = e ∙ ap (λ (w : ℕ). headOf (getD f 3 0) w y) a ∙ ap (λ (w : ℕ). headOf (getD f 3 0) (getD f 4 0) w) b
 
 pub head-narrow : (f : List ℕ) (h : Head) → h ≡ headIn f → firstMet (headTrials f) ≡ Accepted → h .width ≤ largestSide
-head-narrow f h e g = let s = head-right f g .narrow in omega (arith, ap (λ o. o .width) e)
+head-narrow f h e g = let s = head-right f g .sides .narrow in omega (arith, ap (λ o. o .width) e)
 
 pub file-first : (f : List ℕ) → firstMet (fileTrials f) ≡ andThen (firstMet (headTrials f)) (firstMet (fieldsFrom (suc (length f)) (headIn f) f 0))
 unfolding fileTrials

@@ -17,16 +17,17 @@ use Rattle.geometry.specs.Plunges.{fitsPlate}
 use Rattle.theory.proofs.Lists.{gather-out, length-each}
 use Rattle.refusal.specs.declared.Verdict.the-variants.{Accepted}
 use Rattle.refusal.specs.Refusals.{firstMet, largestSide, badSides}
-use Rattle.fields.specs.Fields.{headField, plungeField, plungeFields, endField, fileLength, encoded}
+use Rattle.fields.specs.Fields.{headField, plungeField, plungeFields, endField, fileLength, encoded, headBytes, plungeSize, plungeBytes, endBytes, place}
 use Rattle.fields.proofs.Encoding.{encoded-length, encoded-parts}
 use Rattle.reading.specs.declared.Step.{Step}
 use Rattle.reading.specs.declared.Step.the-variants.{Onward, Ended, Fault}
 use Rattle.reading.specs.declared.ReadAnswer.the-variants.{Readable}
-use Rattle.reading.specs.Reading.{headIn, isPlunge, isEnd, plungeAt, openTrials, plateTrials, headTrials, place, fieldsFrom, IsReadable, total, plungesUpTo, plungesIn, readAnswer, read}
+use Rattle.reading.specs.Reading.{headIn, isPlunge, isEnd, plungeAt, openTrials, plateTrials, headTrials, fieldsFrom, IsReadable, total, plungesUpTo, plungesIn, readAnswer, read}
 use Rattle.reading.specs.Steps.{stepAt}
 use Rattle.reading.proofs.Steps.{andThen, first-append, both-accepted, not-refused, open-whole, Plated, head-right, plunge-right, end-right, content-plunge, content-end, field-content}
 use Rattle.reading.proofs.FieldSteps.{afterStep, fields-step, Passed, Closed, onward, ended, whole-total, file-first}
 use Rattle.reading.proofs.Bytes.{head-kind, head-bytes, plunge-bytes, end-bytes, number-below, written-plunge, written-end, written-head, kind-named}
+use Rattle.refusal.specs.Sides.{Sides}
 
 -- ---- what a readable file has, field by field
 
@@ -42,12 +43,13 @@ record ReadUpTo (p : Head) (f : List ℕ) (n : ℕ) : Type 0 where
   plunges : (i : ℕ) → n ≤ i → i < last → Passed p f i
   closed : Closed f last
 
-readFrom : (more : ℕ) (p : Head) (f : List ℕ) (n : ℕ) → length f < n + more → place n ≤ length f → firstMet (fieldsFrom more p f n) ≡ Accepted → ReadUpTo p f n
+readFrom : (more : ℕ) (p : Head) (f : List ℕ) (n : ℕ) → length f < n + more → place p n ≤ length f → firstMet (fieldsFrom more p f n) ≡ Accepted
+    → ReadUpTo p f n
 readFrom zero p f n l h e = absurd (omega arith)
 readFrom (suc more) p f n l h e = go (stepAt p f n) refl (sym (fields-step more p f n) ∙ e) (readFrom more p f (suc n))
   where
     go : (s : Step) → stepAt p f n ≡ s → afterStep s (firstMet (fieldsFrom more p f (suc n))) ≡ Accepted
-        → (length f < suc n + more → place (suc n) ≤ length f → firstMet (fieldsFrom more p f (suc n)) ≡ Accepted → ReadUpTo p f (suc n)) → ReadUpTo p f n
+        → (length f < suc n + more → place p (suc n) ≤ length f → firstMet (fieldsFrom more p f (suc n)) ≡ Accepted → ReadUpTo p f (suc n)) → ReadUpTo p f n
     go Onward g k r =
         let here = onward p f n g in
         let w = r (omega arith) (omega (arith, here .room)) k in
@@ -69,23 +71,17 @@ readable-checked f e =
 
 -- what every call may take of a readable file
 pub record Sound (f : List ℕ) : Type 0 where
-  pub wide : 1 ≤ headIn f .width
-  pub narrow : headIn f .width ≤ largestSide
-  pub tall : 1 ≤ headIn f .height
-  pub low : headIn f .height ≤ largestSide
+  pub sides : Sides (headIn f)
   pub kind : kindByte (headIn f .kind) ≡ getD f 3 0
-  pub room : length f ≡ fileLength (total f)
-  pub fits : (i : ℕ) → i < total f → fitsPlate (headIn f) (plungeAt f (place i)) ≡ true
-  pub deep : (i : ℕ) → i < total f → 1 ≤ plungeAt f (place i) .depth
+  pub room : length f ≡ fileLength (headIn f) (total f)
+  pub fits : (i : ℕ) → i < total f → fitsPlate (headIn f) (plungeAt f (place (headIn f) i)) ≡ true
+  pub deep : (i : ℕ) → i < total f → 1 ≤ plungeAt f (place (headIn f) i) .depth
 
 pub readable-sound : (f : List ℕ) → IsReadable f → Sound f
 readable-sound f e =
     let c = readable-checked f e in
     record {
-      wide = c .head .wide;
-      narrow = c .head .narrow;
-      tall = c .head .tall;
-      low = c .head .low;
+      sides = c .head .sides;
       kind = head-kind f (c .head .named);
       room = omega (arith, c .closed .whole);
       fits = λ i h. c .plunges i h .fits;
@@ -95,33 +91,33 @@ readable-sound f e =
 -- ---- its bytes are those of its head and its plunges
 
 pub length-plungesIn : (f : List ℕ) → length (plungesIn f) ≡ total f
-length-plungesIn f = length-each (λ i. plungeAt f (place i)) (total f) 0
+length-plungesIn f = length-each (λ i. plungeAt f (place (headIn f) i)) (total f) 0
 
 fields-bytes : (p : Head) (f : List ℕ) (k n : ℕ) → ((i : ℕ) → n ≤ i → i < n + k → Passed p f i)
-    → drop (place n) f ≡ plungeFields (gather k n (λ i. plungeAt f (place i) ∷ [])) ++ drop (place (n + k)) f
-fields-bytes p f zero n h = ap (λ (j : ℕ). drop (place j) f) (sym (add-zero n))
+    → drop (place p n) f ≡ plungeFields (gather k n (λ i. plungeAt f (place p i) ∷ [])) ++ drop (place p (n + k)) f
+fields-bytes p f zero n h = ap (λ (j : ℕ). drop (place p j) f) (sym (add-zero n))
 fields-bytes p f (suc k) n h =
     let here = h n (omega arith) (omega arith) in
-    let next : place n + 7 ≡ place (suc n) = omega arith in
+    let next : place p n + plungeBytes ≡ place p (suc n) = omega arith in
     let last : suc n + k ≡ n + suc k = omega arith in
-    plunge-bytes f (place n) (here .room) (here .tagged)
-    ∙ ap (λ l. plungeField (plungeAt f (place n)) ++ l)
+    plunge-bytes f (place p n) (here .room) (here .tagged)
+    ∙ ap (λ l. plungeField (plungeAt f (place p n)) ++ l)
     (ap (λ (j : ℕ). drop j f) next
     ∙ fields-bytes p f k (suc n) (λ i a b. h i (omega arith) (omega arith))
-    ∙ ap (λ (j : ℕ). plungeFields (gather k (suc n) (λ i. plungeAt f (place i) ∷ [])) ++ drop (place j) f) last)
+    ∙ ap (λ (j : ℕ). plungeFields (gather k (suc n) (λ i. plungeAt f (place p i) ∷ [])) ++ drop (place p j) f) last)
 
 pub readable-encoded : (f : List ℕ) → IsReadable f → ((i : ℕ) → getD f i 0 < 256) → f ≡ encoded (headIn f) (plungesIn f)
 readable-encoded f e bytes =
     let c = readable-checked f e in
     let n = total f in
-    let whole : place n + 7 ≡ length f = sym (c .closed .whole) in
+    let whole : place (headIn f) n + plungeBytes ≡ length f = sym (c .closed .whole) in
     head-bytes f (c .head .room) (c .head .tagged) (c .head .named)
     ∙ ap (λ l. headField (headIn f) ++ l)
     (fields-bytes (headIn f) f n 0 (λ i a b. c .plunges i (omega arith))
     ∙ ap (λ l. plungeFields (plungesIn f) ++ l)
-    (ap (λ (j : ℕ). drop (place j) f) (zero-plus n)
-    ∙ end-bytes f (place n) (omega arith) (c .closed .tagged) bytes
-    ∙ ap (λ (m : ℕ). endField m ++ drop (place n + 7) f) (c .closed .number ∙ sym (length-plungesIn f))
+    (ap (λ (j : ℕ). drop (place (headIn f) j) f) (zero-plus n)
+    ∙ end-bytes f (place (headIn f) n) (omega arith) (c .closed .tagged) bytes
+    ∙ ap (λ (m : ℕ). endField m ++ drop (place (headIn f) n + plungeBytes) f) (c .closed .number ∙ sym (length-plungesIn f))
     ∙ ap (λ l. endField (length (plungesIn f)) ++ l) (ap (λ (j : ℕ). drop j f) whole ∙ drop-length f)
     ∙ append-nil (endField (length (plungesIn f)))))
     ∙ sym (encoded-parts (headIn f) (plungesIn f))
@@ -132,19 +128,16 @@ readable-encoded f e bytes =
 -- ---- heads and lists that a readable file can hold
 
 pub record Writable (p : Head) (qs : List Plunge) : Type 0 where
-  pub wide : 1 ≤ p .width
-  pub narrow : p .width ≤ largestSide
-  pub tall : 1 ≤ p .height
-  pub low : p .height ≤ largestSide
+  pub sides : Sides p
   pub right : (q : Plunge) → List·Memᴰ q qs → (fitsPlate p q ≡ true) × (1 ≤ q .depth)
   pub few : length qs < 4294967296
 
 pub readable-right : (f : List ℕ) → IsReadable f → (q : Plunge) → List·Memᴰ q (plungesIn f) → (fitsPlate (headIn f) q ≡ true) × (1 ≤ q .depth)
 readable-right f e q m =
     let c = readable-checked f e in
-    let t = gather-out (total f) 0 (λ i. plungeAt f (place i) ∷ []) m in
+    let t = gather-out (total f) 0 (λ i. plungeAt f (place (headIn f) i) ∷ []) m in
     let here = c .plunges (t .0) (omega (arith, t .2)) in
-    let is : q ≡ plungeAt f (place (t .0)) = List·Memᴰ·eq-of-singleton (t .3) in
+    let is : q ≡ plungeAt f (place (headIn f) (t .0)) = List·Memᴰ·eq-of-singleton (t .3) in
     subst (λ o. (fitsPlate (headIn f) o ≡ true) × (1 ≤ o .depth)) (sym is) (here .fits, here .deep)
 
 pub readable-writable : (f : List ℕ) → IsReadable f → ((i : ℕ) → getD f i 0 < 256) → Writable (headIn f) (plungesIn f)
@@ -152,34 +145,31 @@ readable-writable f e bytes =
     let s = readable-sound f e in
     let c = readable-checked f e in
     record {
-      wide = s .wide;
-      narrow = s .narrow;
-      tall = s .tall;
-      low = s .low;
+      sides = s .sides;
       right = readable-right f e;
-      few = omega (arith, number-below f (place (total f)) bytes, c .closed .number, length-plungesIn f);
+      few = omega (arith, number-below f (place (headIn f) (total f)) bytes, c .closed .number, length-plungesIn f);
     }
 
 -- ---- what is written is read back
 
 -- past the first field of a list
-next-field : (f : List ℕ) (m n : ℕ) (q : Plunge) (qs : List Plunge) → drop (place n) f ≡ plungeFields (q ∷ qs) ++ endField m
-    → drop (place (suc n)) f ≡ plungeFields qs ++ endField m
+next-field : (f : List ℕ) (m n : ℕ) (q : Plunge) (qs : List Plunge) → drop (place (headIn f) n) f ≡ plungeFields (q ∷ qs) ++ endField m
+    → drop (place (headIn f) (suc n)) f ≡ plungeFields qs ++ endField m
 next-field f m n q qs e =
-    let k : place (suc n) ≡ place n + 7 = omega arith in
-    ap (λ (j : ℕ). drop j f) k ∙ sym (drop-drop 7 (place n) f) ∙ ap (drop 7) e
+    let k : place (headIn f) (suc n) ≡ place (headIn f) n + plungeBytes = omega arith in
+    ap (λ (j : ℕ). drop j f) k ∙ sym (drop-drop plungeBytes (place (headIn f) n) f) ∙ ap (drop plungeBytes) e
 
 -- the plunges of a file whose fields from the n-th on are those of a list
-gathered : (f : List ℕ) (m n : ℕ) (qs : List Plunge) → drop (place n) f ≡ plungeFields qs ++ endField m
-    → gather (length qs) n (λ i. plungeAt f (place i) ∷ []) ≡ qs
+gathered : (f : List ℕ) (m n : ℕ) (qs : List Plunge) → drop (place (headIn f) n) f ≡ plungeFields qs ++ endField m
+    → gather (length qs) n (λ i. plungeAt f (place (headIn f) i) ∷ []) ≡ qs
 gathered f m n [] e = refl
 gathered f m n (q ∷ qs) e =
-    let t = written-plunge f (place n) q (plungeFields qs ++ endField m) e in
+    let t = written-plunge f (place (headIn f) n) q (plungeFields qs ++ endField m) e in
     let more = gathered f m (suc n) qs (next-field f m n q qs e) in
     λ i. t .0 i ∷ more i
 
-encoded-fields : (p : Head) (qs : List Plunge) → drop 6 (encoded p qs) ≡ plungeFields qs ++ endField (length qs)
-encoded-fields p qs = ap (drop 6) (encoded-parts p qs)
+encoded-fields : (p : Head) (qs : List Plunge) → drop headBytes (encoded p qs) ≡ plungeFields qs ++ endField (length qs)
+encoded-fields p qs = ap (drop headBytes) (encoded-parts p qs)
 
 pub encoded-total : (p : Head) (qs : List Plunge) → total (encoded p qs) ≡ length qs
 encoded-total p qs = whole-total (encoded p qs) (length qs) (omega (arith, encoded-length p qs))
@@ -192,28 +182,30 @@ encoded-plunges p qs =
     ap (λ (n : ℕ). plungesUpTo n (encoded p qs)) (encoded-total p qs) ∙ gathered (encoded p qs) (length qs) 0 qs (encoded-fields p qs)
 
 module _ (p : Head) (f : List ℕ) where
-  step-onward : (n : ℕ) (q : Plunge) (rest : List ℕ) → drop (place n) f ≡ plungeField q ++ rest → place n + 7 ≤ length f → fitsPlate p q ≡ true
+  step-onward : (n : ℕ) (q : Plunge) (rest : List ℕ) → drop (place p n) f ≡ plungeField q ++ rest → place p n + plungeBytes ≤ length f → fitsPlate p q ≡ true
       → 1 ≤ q .depth → stepAt p f n ≡ Onward
   step-onward n q rest e h g d =
-      let t = written-plunge f (place n) q rest e in
-      let fits : fitsPlate p (plungeAt f (place n)) ≡ true = ap (fitsPlate p) (t .0) ∙ g in
-      let deep : getD f (place n + 6) 0 ≡ q .depth = ap (λ o. o .depth) (t .0) in
-      let allowed : cond (isEnd f (place n)) true (isPlunge f (place n)) ≡ true = (λ i. cond (t .2 i) true (t .1 i)) in
-      sym (field-content p f n Accepted (open-whole f (place n) (cond (isEnd f (place n)) true (isPlunge f (place n))) 4 (omega arith) (omega arith)
+      let t = written-plunge f (place p n) q rest e in
+      let fits : fitsPlate p (plungeAt f (place p n)) ≡ true = ap (fitsPlate p) (t .0) ∙ g in
+      let deep : getD f (place p n + 6) 0 ≡ q .depth = ap (λ o. o .depth) (t .0) in
+      let allowed : cond (isEnd f (place p n)) true (isPlunge f (place p n)) ≡ true = (λ i. cond (t .2 i) true (t .1 i)) in
+      sym (field-content p f n Accepted (open-whole f (place p n) (cond (isEnd f (place p n)) true (isPlunge f (place p n))) plungeSize (omega arith)
+      (omega arith)
       true (sym allowed) refl (omega arith)) refl)
-      ∙ sym (content-plunge p f (place n) n Accepted (t .2) (plunge-right p f (place n) fits (λ z. omega arith)))
+      ∙ sym (content-plunge p f (place p n) n Accepted (t .2) (plunge-right p f (place p n) fits (λ z. omega arith)))
 
-  step-ended : (n : ℕ) (rest : List ℕ) → drop (place n) f ≡ endField n ++ rest → n < 4294967296 → length f ≡ place n + 7 → stepAt p f n ≡ Ended
+  step-ended : (n : ℕ) (rest : List ℕ) → drop (place p n) f ≡ endField n ++ rest → n < 4294967296 → length f ≡ place p n + endBytes → stepAt p f n ≡ Ended
   step-ended n rest e h w =
-      let t = written-end f (place n) n rest e h in
-      let allowed : cond (isEnd f (place n)) true (isPlunge f (place n)) ≡ true = ap (λ b. cond b true (isPlunge f (place n))) (t .0) in
-      sym (field-content p f n Accepted (open-whole f (place n) (cond (isEnd f (place n)) true (isPlunge f (place n))) 4 (omega arith) (omega arith)
+      let t = written-end f (place p n) n rest e h in
+      let allowed : cond (isEnd f (place p n)) true (isPlunge f (place p n)) ≡ true = ap (λ b. cond b true (isPlunge f (place p n))) (t .0) in
+      sym (field-content p f n Accepted (open-whole f (place p n) (cond (isEnd f (place p n)) true (isPlunge f (place p n))) plungeSize (omega arith)
+      (omega arith)
       true (sym allowed) refl (omega arith)) refl)
-      ∙ sym (content-end p f (place n) n Accepted (t .0) (end-right f (place n) n (t .1) (omega arith)))
+      ∙ sym (content-end p f (place p n) n Accepted (t .0) (end-right f (place p n) n (t .1) (omega arith)))
 
   -- the fields of a list of right plunges, and the end, refuse nothing
-  walk-written : (more n m : ℕ) (qs : List Plunge) → drop (place n) f ≡ plungeFields qs ++ endField m → n + length qs ≡ m → m < 4294967296
-      → length f ≡ place m + 7
+  walk-written : (more n m : ℕ) (qs : List Plunge) → drop (place p n) f ≡ plungeFields qs ++ endField m → n + length qs ≡ m → m < 4294967296
+      → length f ≡ place p m + endBytes
       → length qs < more → ((q : Plunge) → List·Memᴰ q qs → (fitsPlate p q ≡ true) × (1 ≤ q .depth)) → firstMet (fieldsFrom more p f n) ≡ Accepted
   walk-written zero n m qs e s h w l r = absurd (omega arith)
   walk-written (suc more) n m [] e s h w l r =
@@ -243,7 +235,8 @@ encoded-readable p qs w =
     let f = encoded p qs in
     let head : firstMet (headTrials f) ≡ Accepted =
     subst (λ l. firstMet (headTrials l) ≡ Accepted) (sym (encoded-parts p qs))
-    (head-written p (plungeFields qs ++ endField (length qs)) (sides-good (p .width) (p .height) (w .wide) (w .narrow) (w .tall) (w .low))) in
+    (head-written p (plungeFields qs ++ endField (length qs))
+    (sides-good (p .width) (p .height) (w .sides .wide) (w .sides .narrow) (w .sides .tall) (w .sides .low))) in
     let fields : firstMet (fieldsFrom (suc (length f)) p f 0) ≡ Accepted =
     walk-written p f (suc (length f)) 0 (length qs) qs (encoded-fields p qs) (omega arith) (w .few) (omega (arith, encoded-length p qs))
     (omega (arith, encoded-length p qs)) (w .right) in

@@ -22,8 +22,10 @@ use Rattle.refusal.proofs.Refusals.{map-sound}
 use Rattle.reading.specs.declared.MaybePlunge.{MaybePlunge}
 use Rattle.reading.specs.declared.MaybePlunge.the-variants.{OfPlunge, NoPlunge}
 use Rattle.reading.specs.declared.Step.the-variants.{Onward, Ended, Fault}
-use Rattle.reading.specs.Reading.{opens, isEnd, isPlunge, plungeAt, numberAt, openTrials, plateTrials, headTrials, plungeTrials, endTrials, place, fieldTrials}
+use Rattle.reading.specs.Reading.{opens, isEnd, isPlunge, plungeAt, numberAt, openTrials, plateTrials, headTrials, plungeTrials, endTrials, fieldTrials, headIn}
 use Rattle.reading.specs.Steps.{opensEither, stepOf, rightStep, contentStep, stepAt, plungeIf}
+use Rattle.fields.specs.Fields.{opening, headTag, headSize, headBytes, plungeSize, plungeBytes, place}
+use Rattle.refusal.specs.Sides.{Sides}
 
 -- ---- trials after trials
 
@@ -86,9 +88,9 @@ pub opened : (f : List ℕ) (at : ℕ) (allowed : Bool) (size : ℕ) → firstMe
     × (allowed ≡ true)
 opened f at allowed size e =
     let six : Refusal = record { number = 6; place = at } in
-    let a = cond-accepted (ltb (length f) (at + 3)) six (firstMet (trial (not allowed) 7 at ∷ trial (ltb (length f) (at + (3 + size))) 6 at ∷ [])) e in
-    let b = cond-accepted (not allowed) (record { number = 7; place = at }) (firstMet (trial (ltb (length f) (at + (3 + size))) 6 at ∷ [])) (a .1) in
-    let c = cond-accepted (ltb (length f) (at + (3 + size))) six Accepted (b .1) in
+    let a = cond-accepted (ltb (length f) (at + 3)) six (firstMet (trial (not allowed) 7 at ∷ trial (ltb (length f) (at + (opening + size))) 6 at ∷ [])) e in
+    let b = cond-accepted (not allowed) (record { number = 7; place = at }) (firstMet (trial (ltb (length f) (at + (opening + size))) 6 at ∷ [])) (a .1) in
+    let c = cond-accepted (ltb (length f) (at + (opening + size))) six Accepted (b .1) in
     (ltb-false _ _ (c .0), not-not allowed (b .0))
 
 -- ---- the head
@@ -102,40 +104,38 @@ either-same false = refl
 
 -- the head's opening, tried with one tag twice, and then its content
 module _ (f : List ℕ) (v : Verdict) (e : v ≡ firstMet (openTrials f 0 (opensEither 1 1 3 f 0) 3)) where
-  head-open : v ≡ firstMet (openTrials f 0 (opens 1 3 f 0) 3)
-  head-open = e ∙ ap (λ b. firstMet (openTrials f 0 b 3)) (either-same (opens 1 3 f 0))
+  head-open : v ≡ firstMet (openTrials f 0 (opens headTag headSize f 0) 3)
+  head-open = e ∙ ap (λ b. firstMet (openTrials f 0 b 3)) (either-same (opens headTag headSize f 0))
 
-  pub head-room : v ≡ Accepted → 6 ≤ length f
-  head-room g = let t = opened f 0 (opens 1 3 f 0) 3 (sym head-open ∙ g) in omega (arith, t .0)
+  pub head-room : v ≡ Accepted → headBytes ≤ length f
+  head-room g = let t = opened f 0 (opens headTag headSize f 0) 3 (sym head-open ∙ g) in omega (arith, t .0)
 
   pub head-plate : v ≡ Accepted → firstMet (plateTrials (getD f 3 0) (getD f 4 0) (getD f 5 0)) ≡ firstMet (headTrials f)
   head-plate g =
       ap (λ u. andThen u (firstMet (plateTrials (getD f 3 0) (getD f 4 0) (getD f 5 0)))) (sym g ∙ head-open)
-      ∙ sym (first-append (openTrials f 0 (opens 1 3 f 0) 3) (plateTrials (getD f 3 0) (getD f 4 0) (getD f 5 0)))
+      ∙ sym (first-append (openTrials f 0 (opens headTag headSize f 0) 3) (plateTrials (getD f 3 0) (getD f 4 0) (getD f 5 0)))
 
   pub head-fault : (r : Refusal) → v ≡ Refused r → Refused r ≡ firstMet (headTrials f)
   head-fault r g =
       ap (λ u. andThen u (firstMet (plateTrials (getD f 3 0) (getD f 4 0) (getD f 5 0)))) (sym g ∙ head-open)
-      ∙ sym (first-append (openTrials f 0 (opens 1 3 f 0) 3) (plateTrials (getD f 3 0) (getD f 4 0) (getD f 5 0)))
+      ∙ sym (first-append (openTrials f 0 (opens headTag headSize f 0) 3) (plateTrials (getD f 3 0) (getD f 4 0) (getD f 5 0)))
 
 -- what a right head has
 pub record Plated (f : List ℕ) : Type 0 where
-  pub room : 6 ≤ length f
-  pub tagged : opens 1 3 f 0 ≡ true
+  pub room : headBytes ≤ length f
+  pub tagged : opens headTag headSize f 0 ≡ true
   pub named : badKind (getD f 3 0) ≡ false
-  pub wide : 1 ≤ getD f 4 0
-  pub narrow : getD f 4 0 ≤ largestSide
-  pub tall : 1 ≤ getD f 5 0
-  pub low : getD f 5 0 ≤ largestSide
+  pub sides : Sides (headIn f)
 
 pub head-right : (f : List ℕ) → firstMet (headTrials f) ≡ Accepted → Plated f
 head-right f e =
     let plate = plateTrials (getD f 3 0) (getD f 4 0) (getD f 5 0) in
-    let t = both-accepted (firstMet (openTrials f 0 (opens 1 3 f 0) 3)) (firstMet plate) (sym (first-append (openTrials f 0 (opens 1 3 f 0) 3) plate) ∙ e) in
-    let o = opened f 0 (opens 1 3 f 0) 3 (t .0) in
+    let t = both-accepted (firstMet (openTrials f 0 (opens headTag headSize f 0) 3)) (firstMet plate)
+    (sym (first-append (openTrials f 0 (opens headTag headSize f 0) 3) plate) ∙ e) in
+    let o = opened f 0 (opens headTag headSize f 0) 3 (t .0) in
     let k = cond-accepted (badKind (getD f 3 0)) (record { number = 1; place = 0 }) (firstMet (trial (badSides (getD f 4 0) (getD f 5 0)) 2 0 ∷ [])) (t .1) in
     let s = map-sound (getD f 3 0) (getD f 4 0) (getD f 5 0) false (getD f 5 0 * getD f 4 0) (plate-map (getD f 3 0) (getD f 4 0) (getD f 5 0) ∙ t .1) in
-    record { room = omega (arith, o .0); tagged = o .1; named = k .0; wide = s .wide; narrow = s .narrow; tall = s .tall; low = s .low }
+    record { room = omega (arith, o .0); tagged = o .1; named = k .0; sides = record { wide = s .wide; narrow = s .narrow; tall = s .tall; low = s .low } }
 
 -- ---- a plunge's four bytes
 
@@ -208,17 +208,17 @@ module _ (p : Head) (f : List ℕ) (at : ℕ) where
 
 module _ (f : List ℕ) (at n : ℕ) where
   pub end-10 : (numberAt f at ≡ n → ⊥) → refused 10 at ≡ firstMet (endTrials f at n)
-  end-10 e = ap (λ b. cond (not b) (refused 10 at) (cond (ltb (at + 7) (length f)) (refused 11 (at + 7)) Accepted)) (sym (ne-eqb _ _ e))
+  end-10 e = ap (λ b. cond (not b) (refused 10 at) (cond (ltb (at + plungeBytes) (length f)) (refused 11 (at + plungeBytes)) Accepted)) (sym (ne-eqb _ _ e))
 
-  pub end-11 : numberAt f at ≡ n → at + 7 < length f → refused 11 (at + 7) ≡ firstMet (endTrials f at n)
+  pub end-11 : numberAt f at ≡ n → at + plungeBytes < length f → refused 11 (at + plungeBytes) ≡ firstMet (endTrials f at n)
   end-11 e l =
-      ap (λ b. cond b (refused 11 (at + 7)) Accepted) (sym (lt-ltb _ _ l))
-      ∙ ap (λ b. cond (not b) (refused 10 at) (cond (ltb (at + 7) (length f)) (refused 11 (at + 7)) Accepted)) (sym (eq-eqb _ _ e))
+      ap (λ b. cond b (refused 11 (at + plungeBytes)) Accepted) (sym (lt-ltb _ _ l))
+      ∙ ap (λ b. cond (not b) (refused 10 at) (cond (ltb (at + plungeBytes) (length f)) (refused 11 (at + plungeBytes)) Accepted)) (sym (eq-eqb _ _ e))
 
-  pub end-right : numberAt f at ≡ n → length f ≤ at + 7 → Accepted ≡ firstMet (endTrials f at n)
+  pub end-right : numberAt f at ≡ n → length f ≤ at + plungeBytes → Accepted ≡ firstMet (endTrials f at n)
   end-right e l =
-      ap (λ b. cond b (refused 11 (at + 7)) Accepted) (sym (le-ltb _ _ l))
-      ∙ ap (λ b. cond (not b) (refused 10 at) (cond (ltb (at + 7) (length f)) (refused 11 (at + 7)) Accepted)) (sym (eq-eqb _ _ e))
+      ap (λ b. cond b (refused 11 (at + plungeBytes)) Accepted) (sym (le-ltb _ _ l))
+      ∙ ap (λ b. cond (not b) (refused 10 at) (cond (ltb (at + plungeBytes) (length f)) (refused 11 (at + plungeBytes)) Accepted)) (sym (eq-eqb _ _ e))
 
 -- ---- a field
 
@@ -231,28 +231,30 @@ module _ (p : Head) (f : List ℕ) (at n : ℕ) (v : Verdict) where
 
 module _ (p : Head) (f : List ℕ) (n : ℕ) where
   abbrev pub fieldOpen : List Trial
-  fieldOpen = openTrials f (place n) (cond (isEnd f (place n)) true (isPlunge f (place n))) 4
+  fieldOpen = openTrials f (place p n) (cond (isEnd f (place p n)) true (isPlunge f (place p n))) plungeSize
 
   abbrev pub fieldContent : List Trial
-  fieldContent = cond (isEnd f (place n)) (endTrials f (place n) n) (plungeTrials p f (place n))
+  fieldContent = cond (isEnd f (place p n)) (endTrials f (place p n) n) (plungeTrials p f (place p n))
 
   -- by the verdict on the opening
   module _ (v : Verdict) (o : v ≡ firstMet fieldOpen) where
-    pub field-content : v ≡ Accepted → contentStep p f (place n) n ≡ stepAt p f n
-    field-content e = ap (stepOf (rightStep f (place n))) (ap (λ u. andThen u (firstMet fieldContent)) (sym e ∙ o) ∙ sym (first-append fieldOpen fieldContent))
+    pub field-content : v ≡ Accepted → contentStep p f (place p n) n ≡ stepAt p f n
+    field-content e = ap (stepOf (rightStep f (place p n)))
+        (ap (λ u. andThen u (firstMet fieldContent)) (sym e ∙ o) ∙ sym (first-append fieldOpen fieldContent))
 
     pub field-fault : (r : Refusal) → v ≡ Refused r → Fault r ≡ stepAt p f n
-    field-fault r e = ap (stepOf (rightStep f (place n))) (ap (λ u. andThen u (firstMet fieldContent)) (sym e ∙ o) ∙ sym (first-append fieldOpen fieldContent))
+    field-fault r e = ap (stepOf (rightStep f (place p n)))
+        (ap (λ u. andThen u (firstMet fieldContent)) (sym e ∙ o) ∙ sym (first-append fieldOpen fieldContent))
 
-    pub field-room : v ≡ Accepted → place n + 7 ≤ length f
-    field-room e = let t = opened f (place n) (cond (isEnd f (place n)) true (isPlunge f (place n))) 4 (sym o ∙ e) in omega (arith, t .0)
+    pub field-room : v ≡ Accepted → place p n + plungeBytes ≤ length f
+    field-room e = let t = opened f (place p n) (cond (isEnd f (place p n)) true (isPlunge f (place p n))) plungeSize (sym o ∙ e) in omega (arith, t .0)
 
   -- a field that refuses nothing has its content, an allowed tag, and a content that refuses nothing
   pub field-right : firstMet (fieldTrials p f n) ≡ Accepted
-      → (place n + 7 ≤ length f) × (cond (isEnd f (place n)) true (isPlunge f (place n)) ≡ true) × (firstMet fieldContent ≡ Accepted)
+      → (place p n + plungeBytes ≤ length f) × (cond (isEnd f (place p n)) true (isPlunge f (place p n)) ≡ true) × (firstMet fieldContent ≡ Accepted)
   field-right e =
       let t = both-accepted (firstMet fieldOpen) (firstMet fieldContent) (sym (first-append fieldOpen fieldContent) ∙ e) in
-      (field-room (firstMet fieldOpen) refl (t .0), opened f (place n) (cond (isEnd f (place n)) true (isPlunge f (place n))) 4 (t .0) .1, t .1)
+      (field-room (firstMet fieldOpen) refl (t .0), opened f (place p n) (cond (isEnd f (place p n)) true (isPlunge f (place p n))) plungeSize (t .0) .1, t .1)
 
 -- ---- contents that refuse nothing
 
@@ -265,8 +267,9 @@ right-plunge p f at e =
     let d = eqb-false (plungeAt f at .depth) 0 (b .0) in
     (not-not _ (a .0), omega arith)
 
-pub right-end : (f : List ℕ) (at n : ℕ) → firstMet (endTrials f at n) ≡ Accepted → (numberAt f at ≡ n) × (length f ≤ at + 7)
+pub right-end : (f : List ℕ) (at n : ℕ) → firstMet (endTrials f at n) ≡ Accepted → (numberAt f at ≡ n) × (length f ≤ at + plungeBytes)
 right-end f at n e =
-    let a = cond-accepted (not (eqb (numberAt f at) n)) (record { number = 10; place = at }) (firstMet (trial (ltb (at + 7) (length f)) 11 (at + 7) ∷ [])) e in
-    let b = cond-accepted (ltb (at + 7) (length f)) (record { number = 11; place = at + 7 }) Accepted (a .1) in
+    let a = cond-accepted (not (eqb (numberAt f at) n)) (record { number = 10; place = at })
+    (firstMet (trial (ltb (at + plungeBytes) (length f)) 11 (at + plungeBytes) ∷ [])) e in
+    let b = cond-accepted (ltb (at + plungeBytes) (length f)) (record { number = 11; place = at + plungeBytes }) Accepted (a .1) in
     (eqb-true _ _ (not-not _ (a .0)), ltb-false _ _ (b .0))

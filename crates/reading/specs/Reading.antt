@@ -1,4 +1,4 @@
--- Reading a plunge file (document 01, "Plunge file, drawing, tidying" and "Refusals in their order"): what is tried, field by field, and what the file says.
+-- To be believed: reading a plunge file (document 01, "Plunge file, drawing, tidying" and "Refusals in their order"): what is tried, field by field, and what the file says.
 use mathlib.Core.Path.{_≡_}
 use mathlib.Core.Bool.{Bool, true, false, cond, not}
 use mathlib.Core.List.{List, [], _∷_, _++_}
@@ -12,6 +12,7 @@ use Rattle.geometry.specs.Plunges.{fitsPlate}
 use Rattle.refusal.specs.declared.Verdict.{Verdict}
 use Rattle.refusal.specs.declared.Verdict.the-variants.{Accepted, Refused}
 use Rattle.refusal.specs.Refusals.{Trial, trial, firstMet, badKind, badSides, headOf}
+use Rattle.fields.specs.Fields.{opening, headTag, headSize, plungeTag, plungeSize, plungeBytes, endTag, endSize, endBytes, place, fileLength}
 use Rattle.reading.specs.declared.ReadAnswer.{ReadAnswer}
 use Rattle.reading.specs.declared.ReadAnswer.the-variants.{Readable, Unreadable}
 
@@ -31,7 +32,7 @@ headIn f = headOf (getD f 3 0) (getD f 4 0) (getD f 5 0)
 
 -- a plunge's field, and the plunge in it
 abbrev pub isPlunge : List ℕ → ℕ → Bool
-isPlunge = opens 2 4
+isPlunge = opens plungeTag plungeSize
 
 abbrev pub plungeAt : List ℕ → ℕ → Plunge
 plungeAt f at =
@@ -39,7 +40,7 @@ plungeAt f at =
 
 -- an end field, and the number in it
 abbrev pub isEnd : List ℕ → ℕ → Bool
-isEnd = opens 3 4
+isEnd = opens endTag endSize
 
 abbrev pub numberAt : List ℕ → ℕ → ℕ
 numberAt f at = 65536 * (256 * getD f (at + 3) 0 + getD f (at + 4) 0) + (256 * getD f (at + 5) 0 + getD f (at + 6) 0)
@@ -49,7 +50,7 @@ numberAt f at = 65536 * (256 * getD f (at + 3) 0 + getD f (at + 4) 0) + (256 * g
 -- "Per field: fewer than three bytes left is 6; tag or length not allowed here is 7; content cut is 6; then content"
 abbrev pub openTrials : List ℕ → ℕ → Bool → ℕ → List Trial
 openTrials f at allowed size =
-    trial (ltb (length f) (at + 3)) 6 at ∷ trial (not allowed) 7 at ∷ trial (ltb (length f) (at + (3 + size))) 6 at ∷ []
+    trial (ltb (length f) (at + opening)) 6 at ∷ trial (not allowed) 7 at ∷ trial (ltb (length f) (at + (opening + size))) 6 at ∷ []
 
 -- "1: kind not 4 or 8", "2: width or height not 1 to 240"
 abbrev pub plateTrials : ℕ → ℕ → ℕ → List Trial
@@ -57,7 +58,7 @@ plateTrials k w h = trial (badKind k) 1 0 ∷ trial (badSides w h) 2 0 ∷ []
 
 -- "1 head, first, once": its opening, then its content
 abbrev pub headTrials : List ℕ → List Trial
-headTrials f = openTrials f 0 (opens 1 3 f 0) 3 ++ plateTrials (getD f 3 0) (getD f 4 0) (getD f 5 0)
+headTrials f = openTrials f 0 (opens headTag headSize f 0) headSize ++ plateTrials (getD f 3 0) (getD f 4 0) (getD f 5 0)
 
 -- "8: ball leaves the plate", "9: depth 0"
 abbrev pub plungeTrials : Head → List ℕ → ℕ → List Trial
@@ -65,22 +66,18 @@ plungeTrials p f at = trial (not (fitsPlate p (plungeAt f at))) 8 at ∷ trial (
 
 -- "10: end number is not the number of plunges", "11: bytes after the end field"
 abbrev pub endTrials : List ℕ → ℕ → ℕ → List Trial
-endTrials f at n = trial (not (eqb (numberAt f at) n)) 10 at ∷ trial (ltb (at + 7) (length f)) 11 (at + 7) ∷ []
-
--- the place of the field with n plunges before it
-abbrev pub place : ℕ → ℕ
-place n = 6 + 7 * n
+endTrials f at n = trial (not (eqb (numberAt f at) n)) 10 at ∷ trial (ltb (at + endBytes) (length f)) 11 (at + endBytes) ∷ []
 
 -- a field after the head, with n plunges before it: a plunge's or the end
 abbrev pub fieldTrials : Head → List ℕ → ℕ → List Trial
 fieldTrials p f n =
-    openTrials f (place n) (cond (isEnd f (place n)) true (isPlunge f (place n))) 4
-    ++ cond (isEnd f (place n)) (endTrials f (place n) n) (plungeTrials p f (place n))
+    openTrials f (place p n) (cond (isEnd f (place p n)) true (isPlunge f (place p n))) plungeSize
+    ++ cond (isEnd f (place p n)) (endTrials f (place p n) n) (plungeTrials p f (place p n))
 
 -- the fields from one on, up to the end field; no file has more fields than bytes
 unfoldable pub fieldsFrom : ℕ → Head → List ℕ → ℕ → List Trial
 fieldsFrom zero p f n = []
-fieldsFrom (suc more) p f n = fieldTrials p f n ++ cond (isEnd f (place n)) [] (fieldsFrom more p f (suc n))
+fieldsFrom (suc more) p f n = fieldTrials p f n ++ cond (isEnd f (place p n)) [] (fieldsFrom more p f (suc n))
 
 -- "file faults in reading order"
 unfoldable pub fileTrials : List ℕ → List Trial
@@ -94,11 +91,11 @@ IsReadable f = firstMet (fileTrials f) ≡ Accepted
 
 -- "Total plunges n make 13 + 7·n bytes."
 abbrev pub total : List ℕ → ℕ
-total f = (length f - 13) / 7
+total f = (length f - fileLength (headIn f) 0) / plungeBytes
 
 -- the first n plunges, in their order; all plunges
 abbrev pub plungesUpTo : ℕ → List ℕ → List Plunge
-plungesUpTo n f = gather n 0 (λ i. plungeAt f (place i) ∷ [])
+plungesUpTo n f = gather n 0 (λ i. plungeAt f (place (headIn f) i) ∷ [])
 
 abbrev pub plungesIn : List ℕ → List Plunge
 plungesIn f = plungesUpTo (total f) f

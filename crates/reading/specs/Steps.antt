@@ -1,4 +1,5 @@
--- What one field after the head tells the reader.
+-- Serves proofs: what one field after the head tells the reader.
+use mathlib.Core.Path.{_≡_}
 use mathlib.Core.Bool.{Bool, true, cond}
 use mathlib.Core.List.{List}
 use Prim.Native.Nat.{ℕ, _+_}
@@ -11,9 +12,11 @@ use Rattle.geometry.specs.declared.Head.{Head}
 use Rattle.refusal.specs.declared.Verdict.{Verdict}
 use Rattle.refusal.specs.declared.Verdict.the-variants.{Accepted, Refused}
 use Rattle.refusal.specs.Refusals.{firstMet}
+use Rattle.fields.specs.Fields.{place}
+use Rattle.reading.specs.declared.Job.{Job}
 use Rattle.reading.specs.declared.Step.{Step}
 use Rattle.reading.specs.declared.Step.the-variants.{Onward, Ended, Fault}
-use Rattle.reading.specs.Reading.{opens, isEnd, plungeTrials, endTrials, place, fieldTrials, plungeAt}
+use Rattle.reading.specs.Reading.{opens, isEnd, plungeTrials, endTrials, fieldTrials, plungeAt, IsReadable, headIn, total}
 
 -- a field with one of two tags begins at a place
 abbrev pub opensEither : ℕ → ℕ → ℕ → List ℕ → ℕ → Bool
@@ -33,8 +36,14 @@ abbrev pub contentStep : Head → List ℕ → ℕ → ℕ → Step
 contentStep p f at n = stepOf (rightStep f at) (firstMet (cond (isEnd f at) (endTrials f at n) (plungeTrials p f at)))
 
 abbrev pub stepAt : Head → List ℕ → ℕ → Step
-stepAt p f n = stepOf (rightStep f (place n)) (firstMet (fieldTrials p f n))
+stepAt p f n = stepOf (rightStep f (place p n)) (firstMet (fieldTrials p f n))
 
 -- the plunge of a field whose reach is one
 abbrev pub plungeIf : List ℕ → ℕ → MaybePlunge
 plungeIf f at = cond (leb (getD f (at + 5) 0) largestReach) (OfPlunge (plungeAt f at)) NoPlunge
+
+-- what reading a readable file gave
+pub record JobOf (f : List ℕ) (j : Job) : Type 0 where
+  pub readable : IsReadable f
+  pub head : j .head ≡ headIn f
+  pub plunges : j .plunges ≡ total f

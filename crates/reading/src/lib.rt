@@ -9,7 +9,8 @@ ghost use mathlib.Core.Path.{_≡_};
 ghost use Prim.Native.Nat.{suc, _+_, _≤_};
 ghost use lib.ListN.{length};
 ghost use Rattle.refusal.specs.Refusals.{largestSide, firstMet};
-ghost use Rattle.reading.specs.Reading.{opens, headIn, numberAt, openTrials, plateTrials, headTrials, plungeTrials, endTrials, place, fieldsFrom, readAnswer, read};
+ghost use Rattle.fields.specs.Fields.{opening, headBytes, plungeBytes, endBytes, place};
+ghost use Rattle.reading.specs.Reading.{opens, headIn, numberAt, openTrials, plateTrials, headTrials, plungeTrials, endTrials, fieldsFrom, readAnswer, read};
 ghost use Rattle.reading.specs.Steps.{opensEither, stepOf, contentStep, stepAt, plungeIf};
 
 // What a readable file says: its plate, and how many plunges follow.
@@ -48,7 +49,7 @@ fn side(byte: u8) -> u16
 
 // Whether a field with this tag and this length begins at a place.
 fn opens(file: &[u8], at: usize, tag: u8, size: usize) -> bool
-    requires { ⌜ at + 3 ≤ length (now file) ⌝ }
+    requires { ⌜ at + opening ≤ length (now file) ⌝ }
     ensures { λ r. ⌜ r ≡ opens tag size (now (file .entry)) at ⌝ }
 {
     if file[at] == tag {
@@ -59,7 +60,7 @@ fn opens(file: &[u8], at: usize, tag: u8, size: usize) -> bool
 
 // Whether it begins with one of two tags.
 fn opens_either(file: &[u8], at: usize, tag: u8, other: u8, size: usize) -> bool
-    requires { ⌜ at + 3 ≤ length (now file) ⌝ }
+    requires { ⌜ at + opening ≤ length (now file) ⌝ }
     ensures { λ r. ⌜ r ≡ opensEither tag other size (now (file .entry)) at ⌝ }
 {
     if opens(file, at, tag, size) {
@@ -74,11 +75,11 @@ fn check_open(file: &[u8], at: usize, tag: u8, other: u8, size: usize) -> Verdic
     ensures { λ r. ⌜ r ≡ firstMet (openTrials (now (file .entry)) at (opensEither tag other size (now (file .entry)) at) size) ⌝ }
 {
     let left = file.len() - at;
-    if left < 3 {
+    if left < fields::OPENING {
         return refusal::refuse(6, at);
     }
     if opens_either(file, at, tag, other, size) {
-        if left - 3 < size {
+        if left - fields::OPENING < size {
             return refusal::refuse(6, at);
         }
         return Verdict::Accepted;
@@ -105,7 +106,13 @@ fn check_plate(kind: u8, width: u16, height: u16) -> Verdict
 fn check_head(file: &[u8]) -> Verdict
     ensures { λ r. ⌜ r ≡ firstMet (headTrials (now (file .entry))) ⌝ }
 {
-    let opening = check_open(file, 0, 1, 1, 3);
+    let opening = check_open(
+        file,
+        0,
+        fields::HEAD_TAG,
+        fields::HEAD_TAG,
+        fields::HEAD_SIZE as usize,
+    );
     match opening {
         Verdict::Accepted => check_plate(file[3], side(file[4]), side(file[5])),
         Verdict::Refused(r) => Verdict::Refused(r),
@@ -116,7 +123,7 @@ fn check_head(file: &[u8]) -> Verdict
 
 // The plunge of the field at a place.
 pub fn plunge_at(file: &[u8], at: usize) -> MaybePlunge
-    requires { ⌜ at + 7 ≤ length (now file) ⌝ }
+    requires { ⌜ at + plungeBytes ≤ length (now file) ⌝ }
     ensures { λ r. ⌜ r ≡ plungeIf (now (file .entry)) at ⌝ }
 {
     let maybe = Reach::read(file[at + 5]);
@@ -131,9 +138,17 @@ pub fn plunge_at(file: &[u8], at: usize) -> MaybePlunge
     }
 }
 
+// The plunge of the field with i plunges before it.
+pub fn nth_plunge(head: Head, file: &[u8], i: usize) -> MaybePlunge
+    requires { ⌜ place head i + plungeBytes ≤ length (now file) ⌝ }
+    ensures { λ r. ⌜ r ≡ plungeIf (now (file .entry)) (place head i) ⌝ }
+{
+    plunge_at(file, fields::place(head, i))
+}
+
 // Refusals 8 and 9 in their order; a reach above the largest leaves every plate.
 fn check_plunge(file: &[u8], head: Head, at: usize) -> Verdict
-    requires { ⌜ (at + 7 ≤ length (now file)) × (head .width ≤ largestSide) ⌝ }
+    requires { ⌜ (at + plungeBytes ≤ length (now file)) × (head .width ≤ largestSide) ⌝ }
     ensures { λ r. ⌜ r ≡ firstMet (plungeTrials head (now (file .entry)) at) ⌝ }
 {
     let maybe = plunge_at(file, at);
@@ -155,7 +170,7 @@ fn check_plunge(file: &[u8], head: Head, at: usize) -> Verdict
 
 // The number that the end field at a place holds.
 fn number_at(file: &[u8], at: usize) -> usize
-    requires { ⌜ at + 7 ≤ length (now file) ⌝ }
+    requires { ⌜ at + endBytes ≤ length (now file) ⌝ }
     ensures { λ r. ⌜ r ≡ numberAt (now (file .entry)) at ⌝ }
 {
     let high = 256 * numbers::wide(file[at + 3]) + numbers::wide(file[at + 4]);
@@ -165,11 +180,11 @@ fn number_at(file: &[u8], at: usize) -> usize
 
 // Refusals 10 and 11 in their order.
 fn check_end(file: &[u8], at: usize, n: usize) -> Verdict
-    requires { ⌜ at + 7 ≤ length (now file) ⌝ }
+    requires { ⌜ at + endBytes ≤ length (now file) ⌝ }
     ensures { λ r. ⌜ r ≡ firstMet (endTrials (now (file .entry)) at n) ⌝ }
 {
     if number_at(file, at) == n {
-        let next = at + 7;
+        let next = at + fields::END_BYTES;
         if next < file.len() {
             return refusal::refuse(11, next);
         }
@@ -192,10 +207,10 @@ fn after(right: Step, verdict: Verdict) -> Step
 
 // What the content of the field at a place tells, with n plunges before it.
 fn content_at(file: &[u8], head: Head, at: usize, n: usize) -> Step
-    requires { ⌜ (at + 7 ≤ length (now file)) × (head .width ≤ largestSide) ⌝ }
+    requires { ⌜ (at + plungeBytes ≤ length (now file)) × (head .width ≤ largestSide) ⌝ }
     ensures { λ r. ⌜ r ≡ contentStep head (now (file .entry)) at n ⌝ }
 {
-    if opens(file, at, 3, 4) {
+    if opens(file, at, fields::END_TAG, fields::END_SIZE as usize) {
         return after(Step::Ended, check_end(file, at, n));
     }
     after(Step::Onward, check_plunge(file, head, at))
@@ -203,11 +218,17 @@ fn content_at(file: &[u8], head: Head, at: usize, n: usize) -> Step
 
 // What the field with n plunges before it tells.
 fn field_at(file: &[u8], head: Head, n: usize) -> Step
-    requires { ⌜ (place n ≤ length (now file)) × (head .width ≤ largestSide) ⌝ }
+    requires { ⌜ (place head n ≤ length (now file)) × (head .width ≤ largestSide) ⌝ }
     ensures { λ r. ⌜ r ≡ stepAt head (now (file .entry)) n ⌝ }
 {
-    let at = 6 + 7 * n;
-    let opening = check_open(file, at, 3, 2, 4);
+    let at = fields::place(head, n);
+    let opening = check_open(
+        file,
+        at,
+        fields::END_TAG,
+        fields::PLUNGE_TAG,
+        fields::PLUNGE_SIZE as usize,
+    );
     match opening {
         Verdict::Accepted => content_at(file, head, at, n),
         Verdict::Refused(r) => Step::Fault(r),
@@ -216,7 +237,7 @@ fn field_at(file: &[u8], head: Head, n: usize) -> Step
 
 // What the fields after a right head come to.
 fn read_fields(file: &[u8], head: Head) -> ReadAnswer
-    requires { ⌜ (6 ≤ length (now file)) × (head ≡ headIn (now file)) × (head .width ≤ largestSide) ⌝ }
+    requires { ⌜ (headBytes ≤ length (now file)) × (head ≡ headIn (now file)) × (head .width ≤ largestSide) ⌝ }
     ensures { λ r. ⌜ r ≡ readAnswer (firstMet (fieldsFrom (suc (length (now (file .entry)))) head (now (file .entry)) 0)) (now (file .entry)) ⌝ }
 {
     let mut n: usize = 0;

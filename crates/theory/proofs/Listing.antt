@@ -5,20 +5,22 @@ use mathlib.Core.Bool.{Bool, true, false, cond}
 use mathlib.Core.List.{List, [], _∷_, _++_, append-nil, List·Memᴰ, List·Memᴰ·head, List·Memᴰ·not-nil, List·Memᴰ·eq-of-singleton}
 use Prim.Native.Nat.{ℕ, zero, suc, _+_, _*_, _-_, _≤_, _<_, min}
 use native.Mathlib.Omega.{arith}
+use native.Mathlib.Nat.{mul-one}
 use native.Mathlib.Decide.{decLe}
 use borrow.Author.Tests.{ltb-true, lt-ltb, le-ltb}
 use lib.Dec.{ltb}
+use lib.ListN.{length}
 use Rattle.geometry.specs.declared.Kind.{Kind}
 use Rattle.geometry.specs.declared.Kind.the-variants.{Diamond, Square}
 use Rattle.geometry.specs.declared.Head.{Head}
 use Rattle.geometry.specs.declared.Plunge.{Plunge}
 use Rattle.geometry.specs.Lists.{gather}
 use Rattle.geometry.specs.Plane.{Cell, cell, dist}
-use Rattle.geometry.specs.Plate.{On, at}
+use Rattle.geometry.specs.Plate.{On, area, at}
 use Rattle.geometry.specs.Plunges.{centre, Covers, BallWithin, Inside, OnPlate}
 use Rattle.theory.specs.Erosion.{erosion, highestNear, residue}
 use Rattle.theory.specs.Listing.{Fits, Maximal, listedAt, listing}
-use Rattle.theory.proofs.Lists.{gather-in, gather-out, gather-split, gather-nil}
+use Rattle.theory.proofs.Lists.{gather-in, gather-few, gather-out, gather-split, gather-nil}
 use Rattle.theory.proofs.Distance.{dist-sym, dist-tri, near, step}
 use Rattle.theory.proofs.Balls.{within-sum}
 use Rattle.theory.proofs.Plate.{on-or-off}
@@ -200,3 +202,21 @@ module _ (p : Head) (limit : ℕ) (m : List ℕ) (sides : min (p .width) (p .hei
       from : Maximal p m q → List·Memᴰ q (listing p limit m)
       from a = let t = fits-inside q (a .fits) in
           subst (λ o. List·Memᴰ o (listing p limit m)) (a .alone (t .0) (listed-fits p limit m (t .0) (t .1)) (t .2)) (t .1)
+
+-- ---- how long a listing can be
+
+-- the plunges of one reach: at most one for each cell
+pub level-few : (p : Head) (m : List ℕ) (r : ℕ) → length (gather (p .height) 0 (λ y. gather (p .width) 0 (λ x. listedAt p m r x y))) ≤ area p
+level-few p m r =
+    gather-few _ (p .width) (λ y. omega (arith, gather-few (λ x. listedAt p m r x y) 1 (one y) (p .width) 0, mul-one (p .width))) (p .height) 0
+  where
+    few : (t : Bool) (q : Plunge) → length (cond t (q ∷ []) []) ≤ 1
+    few true q = omega arith
+    few false q = omega arith
+
+    one : (y x : ℕ) → length (listedAt p m r x y) ≤ 1
+    one y x = few (ltb 0 (residue p m (suc r) (cell x y))) _
+
+pub listing-length : (p : Head) (limit : ℕ) (m : List ℕ) → length (listing p limit m) ≤ limit * area p
+unfolding listing
+listing-length p limit m = gather-few _ (area p) (level-few p m) limit 0

@@ -24,6 +24,11 @@ module _ {A : Type 0} where
       go (yes g) r = let e : j ≡ i = omega arith in Memᴰ·append-left (gather n (suc i) f) (rw e at m)
       go (no g) r = Memᴰ·append-right (f i) (r (omega arith) (omega arith))
 
+  -- lists of at most b members each
+  pub gather-few : (f : ℕ → List A) (b : ℕ) → ((j : ℕ) → length (f j) ≤ b) → (n i : ℕ) → length (gather n i f) ≤ n * b
+  gather-few f b h zero i = omega arith
+  gather-few f b h (suc n) i = omega (arith, length-append (f i) (gather n (suc i) f), h i, gather-few f b h n (suc i), suc-mul n b)
+
   pub gather-out : {a : A} (n i : ℕ) (f : ℕ → List A) → List·Memᴰ a (gather n i f) → (j : ℕ) × (i ≤ j) × (j < i + n) × List·Memᴰ a (f j)
   gather-out zero i f m = absurd (List·Memᴰ·not-nil m)
   gather-out {a} (suc n) i f m = go (List·Memᴰ·append-cases (f i) m) (gather-out n (suc i) f)

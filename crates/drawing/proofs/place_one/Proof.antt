@@ -8,23 +8,18 @@ use Rattle.drawing.proofs.place_one.Statement.{statement}
 use Rattle.drawing.proofs.place_one.Tie as tie
 
 -- the plunge that was read is the file's
-read : (c : tie.After-maybe) → let given = c .before .before .before .before .before .before .args in c .maybe .given .0 .0 ≡ plunge (given .file .now) (given .i)
+read : (c : tie.After-maybe) → let given = c .before .before .before .before .before .before .args in
+    c .maybe .given .0 .0 ≡ plunge (given .file .now) (given .i)
 read c =
     let s = c .before .before .before .before .before .before in
     told (s .args .head) (s .args .count) _ (s .pre .0) (s .pre .1) (s .args .i) (s .pre .2) _ _
-    (c .before .before .plunge-at .ensures) (c .maybe .given .1)
+    (c .before .before .nth-plunge .ensures) (c .maybe .given .1)
 
 cast-width : tie.Need-cast-width
 cast-width c = search needs
 
-mul-plunge-at : tie.Need-mul-plunge-at
-mul-plunge-at c = search needs
-
-add-plunge-at : tie.Need-add-plunge-at
-add-plunge-at c = search needs
-
-plunge-at-requires : tie.Need-plunge-at-requires
-plunge-at-requires c κs = search needs
+nth-plunge-requires : tie.Need-nth-plunge-requires
+nth-plunge-requires c κs = search needs
 
 enum-known-maybe : tie.Need-enum-known-maybe
 enum-known-maybe c = search needs
@@ -111,16 +106,14 @@ returns-3 c =
     let s = c .before .before .before .before .before .before in
     absurd
     (told-none (s .args .head) (s .args .count) _ (s .pre .0) (s .pre .1) (s .args .i) (s .pre .2) _
-    (c .before .before .plunge-at .ensures) (c .enum-told .given .1))
+    (c .before .before .nth-plunge .ensures) (c .enum-told .given .1))
 
 pub place-one-spec : {M : Type 1} → statement M
 place-one-spec =
     tie.close
     (tie.spec
     cast-width
-    mul-plunge-at
-    add-plunge-at
-    plunge-at-requires
+    nth-plunge-requires
     enum-known-maybe
     cast-if1
     cast-n

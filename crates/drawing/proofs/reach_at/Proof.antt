@@ -5,14 +5,8 @@ use borrow.Author.Needs.{needs}
 use Rattle.drawing.proofs.reach_at.Statement.{statement}
 use Rattle.drawing.proofs.reach_at.Tie as tie
 
-mul-plunge-at : tie.Need-mul-plunge-at
-mul-plunge-at c = search needs
-
-add-plunge-at : tie.Need-add-plunge-at
-add-plunge-at c = search needs
-
-plunge-at-requires : tie.Need-plunge-at-requires
-plunge-at-requires c κs = search needs
+nth-plunge-requires : tie.Need-nth-plunge-requires
+nth-plunge-requires c κs = search needs
 
 enum-known-maybe : tie.Need-enum-known-maybe
 enum-known-maybe c = search needs
@@ -25,26 +19,24 @@ enum-told c = search needs
 
 returns : tie.Need-returns
 returns c =
-    let at-plunge-at = c .before .before .before .before in
-    let s = at-plunge-at .before .before in
+    let at-nth-plunge = c .before .before .before .before in
+    let s = at-nth-plunge .before .before in
     ap (λ q. q .reach .0)
     (told (s .args .head) (s .args .count) _ (s .pre .0) (s .pre .1) (s .args .i) (s .pre .2) _ _
-    (at-plunge-at .plunge-at .ensures) (c .before .before .maybe .given .1))
+    (at-nth-plunge .nth-plunge .ensures) (c .before .before .maybe .given .1))
 
 returns-2 : tie.Need-returns-2
 returns-2 c =
     let s = c .before .before .before .before in
     absurd
     (told-none (s .args .head) (s .args .count) _ (s .pre .0) (s .pre .1) (s .args .i) (s .pre .2) _
-    (c .before .before .plunge-at .ensures) (c .enum-told .given .1))
+    (c .before .before .nth-plunge .ensures) (c .enum-told .given .1))
 
 pub reach-at-spec : {M : Type 1} → statement M
 reach-at-spec =
     tie.close
     (tie.spec
-    mul-plunge-at
-    add-plunge-at
-    plunge-at-requires
+    nth-plunge-requires
     enum-known-maybe
     cast-result
     enum-told

@@ -39,7 +39,7 @@ returns c =
     let at-read = at-answer2 .before .before in
     let at-start = at-read .before .before .before .before .before in
     let given = at-start .args in
-    let w = read-accepted _ (given .file .now) _ (sym (at-answer2 .answer2 .given .1) ∙ at-read .read .ensures) in
+    let w = read-accepted (given .file .now) _ (sym (at-answer2 .answer2 .given .1) ∙ at-read .read .ensures) in
     check-short (given .file .now) _ w [] (given .a .now) (given .b .now) (given .c .now) _
     (at-shortest .shortest .ensures) _ (c .too-short .ensures)
     (omega (arith, c .before .if1 .taken, c .before .before .cells-of .ensures))
@@ -51,7 +51,7 @@ draw-into-requires c κs =
     let at-read = at-answer2 .before .before in
     let at-start = at-read .before .before .before .before .before in
     let w =
-    read-accepted _ (at-start .args .file .now) _ (sym (at-answer2 .answer2 .given .1) ∙ at-read .read .ensures) in
+    read-accepted (at-start .args .file .now) _ (sym (at-answer2 .answer2 .given .1) ∙ at-read .read .ensures) in
     let a = draw-asks (at-start .args .file .now) _ w in (
       a .0,
       a .1,
@@ -69,7 +69,7 @@ compare-requires c κs =
     let at-shared-slice-known = at-read .before .before .before .before in
     let at-start = at-shared-slice-known .before in
     let w =
-    read-accepted _ (at-start .args .file .now) _ (sym (at-answer2 .answer2 .given .1) ∙ at-read .read .ensures) in
+    read-accepted (at-start .args .file .now) _ (sym (at-answer2 .answer2 .given .1) ∙ at-read .read .ensures) in
     check-asks (at-start .args .file .now) _ w [] (at-start .args .a .now) (at-start .args .b .now)
     (at-start .args .c .now) _ (at-shortest .shortest .ensures)
     (omega (arith, at-if1 .if1 .left, at-cells-of .cells-of .ensures))
@@ -103,7 +103,7 @@ returns-3 c =
     let at-read = at-answer2 .before .before in
     let at-start = at-read .before .before .before .before .before in
     let given = at-start .args in
-    let w = read-accepted _ (given .file .now) _ (sym (at-answer2 .answer2 .given .1) ∙ at-read .read .ensures) in
+    let w = read-accepted (given .file .now) _ (sym (at-answer2 .answer2 .given .1) ∙ at-read .read .ensures) in
     check-done (given .file .now) _ w [] (given .a .now) (given .b .now) (given .c .now) _
     (at-shortest .shortest .ensures) (omega (arith, at-if1 .if1 .left, at-cells-of .cells-of .ensures)) _ _ _ _
     (at-draw-into .draw-into .ensures) (at-compare .compare .ensures .0) (at-compare .compare .ensures .1)

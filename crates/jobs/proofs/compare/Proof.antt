@@ -1,7 +1,8 @@
--- `compare` walks the list beside the file: like to the end of both, or 12 at the first byte unlike.
+-- `compare` goes over the list beside the file: like to the end of both, or 12 at the first byte unlike.
 use mathlib.Core.Path.{sym, _∙_}
 use Rattle.jobs.proofs.Checking.{compare-asks, compared-like, compared-unlike, not-both}
 use mathlib.Core.List.{[], _∷_}
+use native.Mathlib.Omega.{arith}
 use borrow.Author.Needs.{needs}
 use Rattle.jobs.proofs.compare.Statement.{statement}
 use Rattle.jobs.proofs.compare.Tie as tie
@@ -15,11 +16,8 @@ send-listing-requires c κs =
     let at-start = c .before .before .before .before .before .before .before in
     compare-asks _ _ _ _ _ _ (at-start .pre) (0 ∷ [])
 
-mul-if2 : tie.Need-mul-if2
-mul-if2 c = search needs
-
-add-if2 : tie.Need-add-if2
-add-if2 c = search needs
+place-requires : tie.Need-place-requires
+place-requires c κs = omega arith
 
 same-length : tie.Need-same-length
 same-length c = search needs
@@ -29,10 +27,12 @@ same-length-2 c = search needs
 
 returns : tie.Need-returns
 returns c =
-    let at-send-listing = c .before .before .before .before .before .before .before .before in
+    let at-place = c .before .before in
+    let at-if1 = at-place .before in
+    let at-send-listing = at-if1 .before .before .before .before .before .before in
     let at-start = at-send-listing .before .before .before .before .before .before .before .before in (
-      compared-like _ _ _ _ _ _ (at-start .pre) _ _ _ (at-send-listing .send-listing .ensures .0) (c .before .before .if1 .taken)
-          (c .if2 .taken),
+      compared-like _ _ _ _ _ _ (at-start .pre) _ _ _ (at-send-listing .send-listing .ensures .0) (at-if1 .if1 .taken)
+          (c .if2 .taken ∙ at-place .place .ensures),
       at-send-listing .send-listing .ensures .1,
       at-send-listing .send-listing .ensures .2,
     )
@@ -45,9 +45,12 @@ same-length-4 c = search needs
 
 returns-2 : tie.Need-returns-2
 returns-2 c =
-    let at-send-listing = c .before .before .before .before .before .before .before .before in
+    let at-place = c .before .before in
+    let at-if1 = at-place .before in
+    let at-send-listing = at-if1 .before .before .before .before .before .before in
     let at-start = at-send-listing .before .before .before .before .before .before .before .before in (
-      compared-unlike _ _ _ _ _ _ (at-start .pre) _ _ _ (at-send-listing .send-listing .ensures .0) (λ l e. c .if2 .left e),
+      compared-unlike _ _ _ _ _ _ (at-start .pre) _ _ _ (at-send-listing .send-listing .ensures .0)
+          (λ l e. c .if2 .left (e ∙ sym (at-place .place .ensures))),
       at-send-listing .send-listing .ensures .1,
       at-send-listing .send-listing .ensures .2,
     )
@@ -74,8 +77,7 @@ compare-spec =
     (tie.spec
     slice-aggregate-send-listing
     send-listing-requires
-    mul-if2
-    add-if2
+    place-requires
     same-length
     same-length-2
     returns

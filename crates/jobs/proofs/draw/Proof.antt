@@ -32,7 +32,7 @@ returns c =
     let at-read = at-answer2 .before .before in
     let at-start = at-read .before .before .before in
     let given = at-start .args in
-    let w = read-accepted _ (given .file .now) _ (sym (at-answer2 .answer2 .given .1) ∙ at-read .read .ensures) in
+    let w = read-accepted (given .file .now) _ (sym (at-answer2 .answer2 .given .1) ∙ at-read .read .ensures) in
     draw-short (given .file .now) _ w (given .out .now) _ (c .too-short .ensures)
     (omega (arith, c .before .if1 .taken, c .before .before .cells-of .ensures))
 
@@ -42,7 +42,7 @@ draw-into-requires c κs =
     let at-read = at-answer2 .before .before in
     let at-start = at-read .before .before .before in
     let w =
-    read-accepted _ (at-start .args .file .now) _ (sym (at-answer2 .answer2 .given .1) ∙ at-read .read .ensures) in
+    read-accepted (at-start .args .file .now) _ (sym (at-answer2 .answer2 .given .1) ∙ at-read .read .ensures) in
     let a = draw-asks (at-start .args .file .now) _ w in
     (a .0, a .1, omega (arith, c .before .if1 .left, c .before .before .cells-of .ensures))
 
@@ -65,7 +65,7 @@ returns-3 c =
     let at-read = at-answer2 .before .before in
     let at-start = at-read .before .before .before in
     let given = at-start .args in
-    let w = read-accepted _ (given .file .now) _ (sym (at-answer2 .answer2 .given .1) ∙ at-read .read .ensures) in
+    let w = read-accepted (given .file .now) _ (sym (at-answer2 .answer2 .given .1) ∙ at-read .read .ensures) in
     draw-done (given .file .now) _ w (given .out .now) _
     (omega (arith, at-if1 .if1 .left, at-cells-of .cells-of .ensures)) (c .before .before .draw-into .ensures)
 

@@ -38,7 +38,7 @@ returns c =
     let at-read = at-answer2 .before .before in
     let at-start = at-read .before .before .before .before .before .before in
     let given = at-start .args in
-    let w = read-accepted _ (given .file .now) _ (sym (at-answer2 .answer2 .given .1) ∙ at-read .read .ensures) in
+    let w = read-accepted (given .file .now) _ (sym (at-answer2 .answer2 .given .1) ∙ at-read .read .ensures) in
     tidy-short (given .file .now) _ w (given .out .now) (given .a .now) (given .b .now) (given .c .now) _
     (at-shortest .shortest .ensures) _ (c .too-short .ensures)
     (omega (arith, c .before .if1 .taken, c .before .before .cells-of .ensures))
@@ -50,7 +50,7 @@ draw-into-requires c κs =
     let at-read = at-answer2 .before .before in
     let at-start = at-read .before .before .before .before .before .before in
     let w =
-    read-accepted _ (at-start .args .file .now) _ (sym (at-answer2 .answer2 .given .1) ∙ at-read .read .ensures) in
+    read-accepted (at-start .args .file .now) _ (sym (at-answer2 .answer2 .given .1) ∙ at-read .read .ensures) in
     let a = draw-asks (at-start .args .file .now) _ w in (
       a .0,
       a .1,
@@ -67,21 +67,16 @@ list-into-requires c κs =
     let at-read = at-answer2 .before .before in
     let at-start = at-read .before .before .before .before .before .before in
     let w =
-    read-accepted _ (at-start .args .file .now) _ (sym (at-answer2 .answer2 .given .1) ∙ at-read .read .ensures) in
-    let s = draw-asks (at-start .args .file .now) _ w .0 in (
-      s .wide,
-      s .narrow,
-      s .low,
-      omega (
-        arith,
-        at-if1 .if1 .left,
-        at-cells-of .cells-of .ensures,
-        at-shortest .shortest .ensures,
-        at-draw-into .draw-into .ensures .same,
-      ),
-      omega (arith, at-if1 .if1 .left, at-cells-of .cells-of .ensures, at-shortest .shortest .ensures),
-      omega (arith, at-if1 .if1 .left, at-cells-of .cells-of .ensures, at-shortest .shortest .ensures),
-    )
+    read-accepted (at-start .args .file .now) _ (sym (at-answer2 .answer2 .given .1) ∙ at-read .read .ensures) in
+    let long = at-if1 .if1 .left in
+    let cells = at-cells-of .cells-of .ensures in
+    let least = at-shortest .shortest .ensures in
+    record {
+      sides = draw-asks (at-start .args .file .now) _ w .0;
+      relief = omega (arith, long, cells, least, at-draw-into .draw-into .ensures .same);
+      first = omega (arith, long, cells, least);
+      second = omega (arith, long, cells, least);
+    }
 
 returns-2 : tie.Need-returns-2
 returns-2 c =
@@ -114,7 +109,7 @@ returns-3 c =
     let at-read = at-answer2 .before .before in
     let at-start = at-read .before .before .before .before .before .before in
     let given = at-start .args in
-    let w = read-accepted _ (given .file .now) _ (sym (at-answer2 .answer2 .given .1) ∙ at-read .read .ensures) in
+    let w = read-accepted (given .file .now) _ (sym (at-answer2 .answer2 .given .1) ∙ at-read .read .ensures) in
     tidy-done (given .file .now) _ w (given .out .now) (given .a .now) (given .b .now) (given .c .now) _
     (at-shortest .shortest .ensures) (omega (arith, at-if1 .if1 .left, at-cells-of .cells-of .ensures)) _ _ _ _ _
     (at-draw-into .draw-into .ensures) (at-list-into .list-into .ensures .0) (at-list-into .list-into .ensures .1)

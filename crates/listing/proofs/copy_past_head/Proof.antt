@@ -5,17 +5,18 @@ use native.Mathlib.Omega.{arith}
 use lib.ListN.{length, getD, drop, length-set}
 use lib.Seq.{paste, paste-zero}
 use Rattle.listing.proofs.Files.{copy-more}
+use Rattle.fields.specs.Fields.{headBytes, place}
 use Rattle.listing.proofs.copy_past_head.Statement.{statement}
 use Rattle.listing.proofs.copy_past_head.Tie as tie
 
 abbrev Inv-loop : tie.InvT-loop
-Inv-loop src dst₀ to n₀ dst n = (6 ≤ n) × (n ≤ to) × (length dst ≡ length dst₀) × (dst ≡ paste dst₀ 6 (drop 6 src) (n - 6))
+Inv-loop src dst₀ to n₀ dst n = (headBytes ≤ n) × (n ≤ to) × (length dst ≡ length dst₀) × (dst ≡ paste dst₀ headBytes (drop headBytes src) (n - headBytes))
 
 abbrev μ-loop : tie.MeasureT-loop
 μ-loop src dst₀ to n₀ dst n = to - n
 
 loop-holds : tie.Need-loop-holds Inv-loop μ-loop
-loop-holds c = (omega arith, omega arith, refl, paste-zero (c .args .dst .now) 6 (drop 6 (c .args .src .now)))
+loop-holds c = (omega arith, omega arith, refl, paste-zero (c .args .dst .now) headBytes (drop headBytes (c .args .src .now)))
 
 shared-slice-read-dst : tie.Need-shared-slice-read-dst Inv-loop μ-loop
 shared-slice-read-dst c = omega arith
@@ -50,7 +51,7 @@ same-length c = omega arith
 returns : tie.Need-returns Inv-loop μ-loop
 returns c =
     let e : c .before .loop .n ≡ c .before .before .args .to = omega arith in c .before .loop .inv .3 ∙ ap
-    (λ (k : ℕ). paste (c .before .before .args .dst .now) 6 (drop 6 (c .before .before .args .src .now)) (k - 6)) e
+    (λ (k : ℕ). paste (c .before .before .args .dst .now) headBytes (drop headBytes (c .before .before .args .src .now)) (k - headBytes)) e
 
 pub copy-past-head-spec : {M : Type 1} → statement M
 copy-past-head-spec =

@@ -4,7 +4,8 @@ use native.Mathlib.Omega.{arith}
 use Rattle.theory.specs.Listing.{listing}
 use Rattle.refusal.specs.Refusals.{largestErosion}
 use Rattle.erosion_series.proofs.Pairs.{kept-more}
-use Rattle.listing.proofs.Files.{stage-writes-not, listing-few, counted-end, counted-kept, plunges-of, answered-short, answered-long, file-whole}
+use Rattle.listing.proofs.Files.{stage-writes-not, counted-end, counted-kept, plunges-of, answered-short, answered-long, file-whole}
+use Rattle.listing_plunges.proofs.Plunges.{listing-few}
 use borrow.Author.Needs.{needs}
 use Rattle.listing.proofs.list_into.Statement.{statement}
 use Rattle.listing.proofs.list_into.Tie as tie
@@ -19,12 +20,7 @@ slice-aggregate-send-listing c = search needs
 send-listing-requires : tie.Need-send-listing-requires
 send-listing-requires c κs =
     let at-start = c .before .before .before .before .before .before .before in (
-      at-start .pre .0,
-      at-start .pre .1,
-      at-start .pre .2,
-      at-start .pre .3,
-      at-start .pre .4,
-      at-start .pre .5,
+      at-start .pre,
       λ e. absurd (stage-writes-not e),
     )
 
@@ -40,7 +36,7 @@ add-bytes c =
       arith,
       counted-end (given .relief .now) (listing (given .head) largestErosion (given .relief .now)) _ _ _
           (at-send-listing .send-listing .ensures .0),
-      listing-few (given .head) (given .relief .now) (at-start .pre .1) (at-start .pre .2),
+      listing-few (given .head) (given .relief .now) (at-start .pre .sides),
     )
 
 same-length : tie.Need-same-length
@@ -69,23 +65,29 @@ put-head-requires c κs = search needs
 
 put-plunges-requires : tie.Need-put-plunges-requires
 put-plunges-requires c κs =
-    let at-send-listing =
-    c .before .before .before .before .before .before .before .before .before .before .before .before .before .before in
-    let at-start = at-send-listing .before .before .before .before .before .before .before .before in
-    let given = at-start .args in (
-      at-start .pre .0,
-      at-start .pre .1,
-      at-start .pre .2,
-      at-start .pre .3,
-      omega arith,
-      omega arith,
-      omega (arith, at-send-listing .send-listing .ensures .0 .bytes .0),
-      counted-end (given .relief .now) (listing (given .head) largestErosion (given .relief .now)) _ _ _
-          (at-send-listing .send-listing .ensures .0),
-      omega arith,
-      counted-kept (given .relief .now) (listing (given .head) largestErosion (given .relief .now)) _ _ _
-          (at-send-listing .send-listing .ensures .0) (omega arith),
-    )
+    record {
+      listable =
+          let at-send-listing = c .before .before .before .before .before .before .before .before .before .before .before .before .before .before in
+          let at-start = at-send-listing .before .before .before .before .before .before .before .before in
+          record {
+            sides = at-start .pre .sides;
+            relief = at-start .pre .relief;
+            first = omega (arith, at-start .pre .first, at-send-listing .send-listing .ensures .1 .same);
+            second = omega (arith, at-start .pre .second, at-send-listing .send-listing .ensures .2 .same);
+          };
+      stage = let at-send-listing = c .before .before .before .before .before .before .before .before .before .before .before .before .before .before in omega (arith, at-send-listing .send-listing .ensures .0 .bytes .0);
+      counted =
+          let at-send-listing = c .before .before .before .before .before .before .before .before .before .before .before .before .before .before in
+          let given = at-send-listing .before .before .before .before .before .before .before .before .args in
+          counted-end (given .relief .now) (listing (given .head) largestErosion (given .relief .now)) _ _ _
+          (at-send-listing .send-listing .ensures .0);
+      room = omega arith;
+      plunges =
+          let at-send-listing = c .before .before .before .before .before .before .before .before .before .before .before .before .before .before in
+          let given = at-send-listing .before .before .before .before .before .before .before .before .args in
+          counted-kept (given .relief .now) (listing (given .head) largestErosion (given .relief .now)) _ _ _
+          (at-send-listing .send-listing .ensures .0) (omega arith);
+    }
 
 put-end-requires : tie.Need-put-end-requires
 put-end-requires c κs = search needs

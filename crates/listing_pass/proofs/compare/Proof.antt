@@ -4,7 +4,7 @@ use Prim.Native.Nat.{_+_}
 use native.Mathlib.Omega.{arith}
 use lib.Dec.{eqb}
 use lib.ListN.{drop}
-use Rattle.fields.specs.Fields.{plungeField}
+use Rattle.fields.specs.Fields.{plungeField, plungeBytes}
 use Rattle.listing_pass.proofs.Common.{common-le}
 use borrow.Author.Needs.{needs}
 use Rattle.listing_pass.proofs.compare.Statement.{statement}
@@ -25,7 +25,7 @@ common-run-requires c κs = search needs
 returns : tie.Need-returns
 returns c =
     let at-start = c .before .before .before .before .before in
-    (ap (λ n. at-start .args .at + n) (c .common-run .ensures), ap (λ n. eqb n 7) (c .common-run .ensures))
+    (ap (λ n. at-start .args .at + n) (c .common-run .ensures), ap (λ n. eqb n plungeBytes) (c .common-run .ensures))
 
 add-t10 : tie.Need-add-t10
 add-t10 c =

@@ -37,7 +37,7 @@ loop-holds c =
     let at-start = c .before .before .before .before .before .before .before .before .before .before .before in (
       omega arith,
       refl,
-      sent-erosions-start _ _ _ _ _ _ _ _ (at-start .pre .3) (at-start .pre .4) (at-start .pre .5)
+      sent-erosions-start _ _ _ _ _ _ _ _ (at-start .pre .0 .relief) (at-start .pre .0 .first) (at-start .pre .0 .second)
           (c .before .before .copy-run .ensures),
     )
 
@@ -46,7 +46,7 @@ step-pair-requires c κs =
     let at-loop = c .before .before .before in
     let at-start =
     at-loop .before .before .before .before .before .before .before .before .before .before .before .before in
-    eroding-asks _ _ _ _ _ _ _ (at-loop .loop .inv .2 .eroding) (omega arith) (at-start .pre .0)
+    eroding-asks _ _ _ _ _ _ _ (at-loop .loop .inv .2 .eroding) (omega arith) (at-start .pre .0 .sides .wide)
 
 add-k : tie.Need-add-k Inv-loop μ-loop
 add-k c = omega arith
@@ -57,8 +57,8 @@ send-pair-requires c κs =
     let at-loop = at-step-pair .before .before .before .before in
     let at-start =
     at-loop .before .before .before .before .before .before .before .before .before .before .before .before in
-    sent-erosions-asks _ _ _ _ _ _ _ _ _ _ _ _ (at-loop .loop .inv .2) (at-start .pre .6) (omega arith) _ _ _
-    (at-step-pair .step-pair .ensures) (at-start .pre .0) (at-start .pre .1) (at-start .pre .2)
+    sent-erosions-asks _ _ _ _ _ _ _ _ _ _ _ _ (at-loop .loop .inv .2) (at-start .pre .1) (omega arith) _ _ _
+    (at-step-pair .step-pair .ensures) (at-start .pre .0 .sides)
 
 same-length : tie.Need-same-length Inv-loop μ-loop
 same-length c =
@@ -91,7 +91,7 @@ returns c =
     let at-copy-run = at-loop .before .before .before in
     let at-start = at-copy-run .before .before .before .before .before .before .before .before .before in
     let t = eroding-more _ _ _ _ _ _ _ (at-loop .loop .inv .2 .eroding) _ _ _ (at-step-pair .step-pair .ensures) in (
-      sent-erosions-stops _ _ _ _ _ _ _ _ _ _ _ _ (at-loop .loop .inv .2) (at-start .pre .6) (omega arith) _ _ _
+      sent-erosions-stops _ _ _ _ _ _ _ _ _ _ _ _ (at-loop .loop .inv .2) (at-start .pre .1) (omega arith) _ _ _
           (at-step-pair .step-pair .ensures) _ _ (at-send-pair .send-pair .ensures) (not-true _ (c .if1 .taken)),
       kept-more _ _ _ _ (kept-copy _ _ _ _ (at-copy-run .copy-run .ensures)) (t .first),
       t .second,
@@ -128,7 +128,7 @@ returns-2 c =
     let at-copy-run = at-loop .before .before .before in
     let at-start = at-copy-run .before .before .before .before .before .before .before .before .before in
     let t = eroding-more _ _ _ _ _ _ _ (at-loop .loop .inv .2 .eroding) _ _ _ (at-step-pair .step-pair .ensures) in (
-      sent-erosions-empty _ _ _ _ _ _ _ _ _ _ _ _ (at-loop .loop .inv .2) (at-start .pre .6) (omega arith) _ _ _
+      sent-erosions-empty _ _ _ _ _ _ _ _ _ _ _ _ (at-loop .loop .inv .2) (at-start .pre .1) (omega arith) _ _ _
           (at-step-pair .step-pair .ensures) _ _ (at-send-pair .send-pair .ensures) (not-false _ (c .before .if1 .left))
           (c .if2 .taken),
       kept-more _ _ _ _ (kept-copy _ _ _ _ (at-copy-run .copy-run .ensures)) (t .first),
@@ -147,7 +147,7 @@ loop-again c =
     at-loop .before .before .before .before .before .before .before .before .before .before .before .before in (
       omega arith,
       refl,
-      sent-erosions-more _ _ _ _ _ _ _ _ _ _ _ _ (at-loop .loop .inv .2) (at-start .pre .6) (omega arith) _ _ _
+      sent-erosions-more _ _ _ _ _ _ _ _ _ _ _ _ (at-loop .loop .inv .2) (at-start .pre .1) (omega arith) _ _ _
           (at-step-pair .step-pair .ensures) _ _ (at-send-pair .send-pair .ensures) (not-false _ (c .before .if1 .left))
           (omega arith),
     )

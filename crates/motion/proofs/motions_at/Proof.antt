@@ -19,38 +19,40 @@ returns : tie.Need-returns
 returns c =
     let at-start = c .before .before .before in
     let given = at-start .args in
-    scale-refused (given .file .now) (given .i) (given .scale) (at-start .pre .0)
+    scale-refused (given .file .now) (given .i) (given .scale) (at-start .pre .readable)
     (sym (c .before .in-range .ensures) ∙ not-true _ (c .if1 .taken))
 
 returns-2 : tie.Need-returns-2
 returns-2 c =
-    let at-start = c .before .before .before .before in
+    let at-in-range = c .before .before .before in
+    let at-start = at-in-range .before .before in
     let given = at-start .args in
-    number-refused (given .file .now) (given .i) (given .scale) (at-start .pre .0)
-    (sym (c .before .before .in-range .ensures) ∙ not-false _ (c .before .if1 .left))
-    (omega (arith, at-start .pre .1, c .if2 .taken))
+    number-refused (given .file .now) (given .i) (given .scale) (at-start .pre .readable)
+    (sym (at-in-range .in-range .ensures) ∙ not-false _ (c .before .before .if1 .left))
+    (omega (arith, at-start .pre .plunges, c .if2 .taken))
 
 is-changed-requires : tie.Need-is-changed-requires
 is-changed-requires c κs = search needs
 
 plunge-number-requires : tie.Need-plunge-number-requires
 plunge-number-requires c κs =
-    let at-start = c .before .before .before .before .before in
-    plunge-asks _ _ (at-start .pre .0) (omega (arith, at-start .pre .1, c .before .if2 .left))
+    let at-if2 = c .before .before in
+    let at-start = at-if2 .before .before .before .before .before in
+    plunge-asks _ _ (at-start .pre .readable) (omega (arith, at-start .pre .plunges, at-if2 .if2 .left))
 
 motions-of-requires : tie.Need-motions-of-requires
 motions-of-requires c κs = search needs
 
 returns-3 : tie.Need-returns-3
 returns-3 c =
-    let at-if2 = c .before .before .before in
-    let at-if1 = at-if2 .before in
+    let at-if2 = c .before .before .before .before in
+    let at-if1 = at-if2 .before .before in
     let at-in-range = at-if1 .before in
     let at-start = at-in-range .before .before in
     let given = at-start .args in
-    moves (given .file .now) (given .i) (given .scale) (at-start .pre .0)
+    moves (given .file .now) (given .i) (given .scale) (at-start .pre .readable)
     (sym (at-in-range .in-range .ensures) ∙ not-false _ (at-if1 .if1 .left))
-    (omega (arith, at-start .pre .1, at-if2 .if2 .left)) _
+    (omega (arith, at-start .pre .plunges, at-if2 .if2 .left)) _
     (c .motions-of .ensures ∙ ap₂ (motionsOf (given .scale)) (c .before .before .is-changed .ensures)
     (c .before .plunge-number .ensures))
 

@@ -20,8 +20,7 @@ enum-known-answer-2 c = search needs
 motions-at-requires : tie.Need-motions-at-requires
 motions-at-requires c κs =
     let at-read = c .before .before .before in
-    let w = read-accepted _ _ _ (sym (c .before .answer2 .given .1) ∙ at-read .read .ensures) in
-    (w .verdict, w .plunges)
+    read-accepted _ _ (sym (c .before .answer2 .given .1) ∙ at-read .read .ensures)
 
 returns : tie.Need-returns
 returns c =

@@ -6,6 +6,9 @@ use borrow.Author.Needs.{needs}
 use Rattle.reading.proofs.check_head.Statement.{statement}
 use Rattle.reading.proofs.check_head.Tie as tie
 
+cast-check-open : tie.Need-cast-check-open
+cast-check-open c = search needs
+
 check-open-requires : tie.Need-check-open-requires
 check-open-requires c κs = search needs
 
@@ -72,6 +75,7 @@ pub check-head-spec : {M : Type 1} → statement M
 check-head-spec =
     tie.close
     (tie.spec
+    cast-check-open
     check-open-requires
     enum-told
     shared-slice-read-check-plate

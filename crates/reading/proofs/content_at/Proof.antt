@@ -5,6 +5,9 @@ use borrow.Author.Needs.{needs}
 use Rattle.reading.proofs.content_at.Statement.{statement}
 use Rattle.reading.proofs.content_at.Tie as tie
 
+cast-opens : tie.Need-cast-opens
+cast-opens c = search needs
+
 opens-requires : tie.Need-opens-requires
 opens-requires c κs = search needs
 
@@ -40,6 +43,7 @@ pub content-at-spec : {M : Type 1} → statement M
 content-at-spec =
     tie.close
     (tie.spec
+    cast-opens
     opens-requires
     check-end-requires
     after-requires

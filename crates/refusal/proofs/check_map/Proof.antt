@@ -27,14 +27,16 @@ returns c =
     let at-of-byte = at-maybe .before .before in
     let given = at-of-byte .before .args in
     c .check-sides .ensures
-    ∙ sym (kind-passes (given .kind) (given .width) (given .height) (given .wrong) (given .shortest ∷ []) _ (sym (at-of-byte .of-byte .ensures) ∙ at-maybe .maybe .given .1))
+    ∙ sym (kind-passes (given .kind) (given .width) (given .height) (given .wrong) (given .shortest ∷ []) _
+    (sym (at-of-byte .of-byte .ensures) ∙ at-maybe .maybe .given .1))
 
 returns-2 : tie.Need-returns-2
 returns-2 c =
     let at-of-byte = c .before .before .before in
     let given = at-of-byte .before .args in
     c .refuse .ensures
-    ∙ sym (kind-refused (given .kind) (given .width) (given .height) (given .wrong) (given .shortest ∷ []) (sym (at-of-byte .of-byte .ensures) ∙ c .before .enum-told .given .1))
+    ∙ sym (kind-refused (given .kind) (given .width) (given .height) (given .wrong) (given .shortest ∷ [])
+    (sym (at-of-byte .of-byte .ensures) ∙ c .before .enum-told .given .1))
 
 pub check-map-spec : {M : Type 1} → statement M
 check-map-spec =

@@ -32,8 +32,8 @@ put-plunges-requires c κs =
     let at-answer = c .before .before .before in
     let at-read = at-answer .before .before in
     let size = c .before .«large-buffer» .ensures in
-    let w = read-accepted _ _ _ (sym (at-answer .answer .given .1) ∙ at-read .read .ensures) in
-    (room-for-lines (c .before .«large-buffer» .result) size, w .verdict, w .plunges)
+    let w = read-accepted _ _ (sym (at-answer .answer .given .1) ∙ at-read .read .ensures) in
+    (room-for-lines (c .before .«large-buffer» .result) size, w)
 
 array-share-prefix-page : tie.Need-array-share-prefix-page
 array-share-prefix-page c = search needs

@@ -13,10 +13,10 @@ use lib.ListN.{length}
 use Rattle.text.proofs.Lines.{counts}
 
 abbrev Inv-loop : tie.InvT-loop
-Inv-loop fd file plunges scale page₀ used₀ i₀ page used i = (used ≤ length page₀) × (length page ≡ length page₀) × (i ≤ plunges)
+Inv-loop fd file job scale page₀ plunges used₀ i₀ page used i = (used ≤ length page₀) × (length page ≡ length page₀) × (i ≤ plunges)
 
 abbrev μ-loop : tie.MeasureT-loop
-μ-loop fd file plunges scale page₀ used₀ i₀ page used i = plunges - i
+μ-loop fd file job scale page₀ plunges used₀ i₀ page used i = plunges - i
 
 loop-holds : tie.Need-loop-holds Inv-loop μ-loop
 loop-holds c = search needs
