@@ -10,7 +10,8 @@ use lib.Ieee.Compare.{differs-from-itself, nan-differs}
 use Rattle.decimal.specs.declared.Digits.{Digits}
 use Rattle.decimal.specs.declared.Parts.{Parts}
 use Rattle.decimal.specs.Digits.{Shortest}
-use Rattle.decimal.specs.Text.{textOf, hexadecimal, notNumber, inFields, partsIn, Put, PutParts, PutBits, PutNumber}
+use Rattle.decimal.specs.Text.{textOf, hexadecimal, notNumber, partsIn, Put, PutNumber}
+use Rattle.decimal.specs.Printing.{inFields, PutParts, PutBits}
 use Rattle.decimal.proofs.Shortest.{proper}
 use Rattle.decimal.proofs.Sizes.{fraction-room}
 use Rattle.decimal.proofs.Back.{reads-back}

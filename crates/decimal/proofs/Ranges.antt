@@ -12,7 +12,8 @@ use lib.Pow.{pow-add, pow-pos, pow-mono}
 use lib.Ieee.{Float, nan, inf, fin, binary64, up, down, size, le, lt, isNan, toBits}
 use lib.Ieee.Digits.{size-lt, size-le, size-reaches}
 use lib.Ieee.Fits.{down-pos, kept-lt}
-use Rattle.decimal.specs.Text.{inFields, inDecimalRange}
+use Rattle.decimal.specs.Text.{inDecimalRange}
+use Rattle.decimal.specs.Printing.{inFields}
 
 -- ---- tests that come to the same
 

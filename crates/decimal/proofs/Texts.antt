@@ -14,7 +14,8 @@ use lib.Seq.{sets-eq, take-set-le, drop-set-lt, drop-cons, getD-set-same}
 use Rattle.fields.specs.Writing.{spliced}
 use Rattle.fields.proofs.Splice.{splice-nil, splice-length, splice-splice}
 use Rattle.decimal.specs.declared.Digits.{Digits}
-use Rattle.decimal.specs.Text.{digitByte, digitText, IsSize, textOf, hexadecimal, notNumber, Put, PutParts}
+use Rattle.decimal.specs.Text.{digitByte, digitText, IsSize, textOf, hexadecimal, notNumber, Put}
+use Rattle.decimal.specs.Printing.{PutParts}
 
 -- ---- whether text fits
 

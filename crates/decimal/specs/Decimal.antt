@@ -1,4 +1,4 @@
--- What decimal text denotes: an optional '-', then digits with at most one point among them, at least one digit in all, nothing else.
+-- To be believed: what decimal text denotes: an optional '-', then digits with at most one point among them, at least one digit in all, nothing else.
 use mathlib.Core.Bool.{Bool, true, false, cond}
 use mathlib.Core.List.{List, [], _∷_, _++_}
 use Prim.Native.Nat.{ℕ, _+_, _-_, _*_, _^_}

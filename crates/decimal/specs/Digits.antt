@@ -1,4 +1,4 @@
--- The shortest decimal that tells a float from every other float.
+-- To be believed: the shortest decimal that tells a float from every other float.
 use mathlib.Core.Path.{_≡_}
 use mathlib.Core.Bool.{cond}
 use Prim.Native.Nat.{ℕ, _+_, _-_, _*_, _/_, _%_, _^_, _≤_, _<_}

@@ -2,3 +2,4 @@ pub mod Decimal
 pub mod Scan
 pub mod Digits
 pub mod Text
+pub mod Printing

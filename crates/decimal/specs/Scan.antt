@@ -1,4 +1,4 @@
--- How a number is read, byte by byte.
+-- Serves proofs: how a number is read, byte by byte.
 use mathlib.Core.Bool.{true, false, cond}
 use mathlib.Core.List.{List, [], _∷_}
 use Prim.Native.Nat.{ℕ, _+_, _-_, _*_, _^_, _≤_, _<_}

@@ -1,4 +1,4 @@
--- The text of a float, and where it is put.
+-- To be believed: the text of a float, and where it is put.
 use mathlib.Core.Path.{_≡_}
 use mathlib.Core.Bool.{Bool, true, false, cond}
 use mathlib.Core.List.{List, [], _∷_, _++_}
@@ -44,19 +44,9 @@ pub record Put (bs old new : List ℕ) (at next : ℕ) : Type 0 where
   pub other : length old < at + length bs → (new ≡ old) × (next ≡ at)
   pub inside : next ≤ max at (length old)
 
--- a number's text is put, with as many digits before the point as the whole number has
-pub record PutParts (whole : ℕ) (d : Digits) (old new : List ℕ) (at next : ℕ) : Type 0 where
-  pub size : ℕ
-  pub sized : IsSize whole size
-  pub put : Put (textOf size whole d) old new at next
-
 -- from 2^-6 to below 2^20
 abbrev pub inDecimalRange : Float → Bool
 inDecimalRange x = cond (le (fin false 1 (negsuc 5)) x) (lt x (fin false 1 (pos 20))) false
-
--- the exponent fields of the floats in that range
-abbrev pub inFields : ℕ → Bool
-inFields field = cond (leb 1017 field) (leb field 1042) false
 
 -- the parts of the float with these bits
 abbrev pub partsIn : ℕ → Parts
@@ -71,13 +61,6 @@ pub record Shown (x : Float) (p : Parts) (bs : List ℕ) : Type 0 where
   pub proper : digits .number < 10 ^ digits .count
   pub shortest : Shortest (p .fraction) (p .half) digits
   pub reads : round binary64 false (p .whole * 10 ^ digits .count + digits .number) (10 ^ digits .count) ≡ x
-
--- for the float with these bits: its shortest decimal in the range, the bits outside
-pub record PutBits (bits : ℕ) (old new : List ℕ) (at next : ℕ) : Type 0 where
-  pub bytes : List ℕ
-  pub in-range : inFields (bits / 2 ^ 52) ≡ true → Shown (ofBits binary64 bits) (partsIn bits) bytes
-  pub out-of-range : inFields (bits / 2 ^ 52) ≡ false → bytes ≡ hexadecimal bits
-  pub put : Put bytes old new at next
 
 -- for a float: its shortest decimal in the range, its bits or "nan" outside
 pub record PutNumber (x : Float) (old new : List ℕ) (at next : ℕ) : Type 0 where

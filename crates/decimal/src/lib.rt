@@ -10,7 +10,8 @@ ghost use Rattle.fields.specs.Writing.{spliced};
 ghost use Rattle.decimal.specs.Decimal.{isDigit, decimalOf, unsignedOf};
 ghost use Rattle.decimal.specs.Scan.{Bounded, begun, spoiled, pointed, withDigit, scannedByte, scanned};
 ghost use Rattle.decimal.specs.Digits.{partsOf, Shortest};
-ghost use Rattle.decimal.specs.Text.{digitByte, digitText, IsSize, Put, hexadecimal, notNumber, PutParts, PutBits, PutNumber};
+ghost use Rattle.decimal.specs.Text.{digitByte, digitText, IsSize, Put, hexadecimal, notNumber, PutNumber};
+ghost use Rattle.decimal.specs.Printing.{PutParts, PutBits};
 
 // What a text is: the nearest float, no number, or a number of more than 15 digits.
 pub enum Decimal {

@@ -31,38 +31,38 @@ use Rattle.buffers.proofs.Fill.{row-under}
 use Rattle.refusal.specs.Sides.{Sides}
 use Rattle.reading.specs.declared.MaybePlunge.{MaybePlunge}
 use Rattle.reading.specs.declared.MaybePlunge.the-variants.{OfPlunge, NoPlunge}
-use Rattle.reading.specs.Reading.{plungesUpTo}
+use Rattle.reading.specs.Reading.{plungesUpTo, nthPlunge}
 use Rattle.reading.specs.Steps.{plungeIf}
-use Rattle.drawing.specs.Levels.{drawnFrom, centredDepth}
-use Rattle.drawing.specs.Files.{plunge, Drawable, reaches, Ranges, centreAt, Of, Raised}
-use Rattle.drawing.proofs.Levels.{Room, room, le-deepest, deepest-le, placed-here, here-placed, drawn-from-zero, drawn-from-none, drawn-from-step, drawn-from-off, drawn-from-west, drawn-from-east, drawn-from-north, drawn-from-south}
+use Rattle.drawing.specs.Reaches.{drawnFrom, centredDepth}
+use Rattle.drawing.specs.Files.{Drawable, reaches, Ranges, centreAt, Of, Raised}
+use Rattle.drawing.proofs.Reaches.{Room, room, le-deepest, deepest-le, placed-here, here-placed, drawn-from-zero, drawn-from-none, drawn-from-step, drawn-from-off, drawn-from-west, drawn-from-east, drawn-from-north, drawn-from-south}
 use Rattle.fields.specs.Fields.{place}
 
 -- ---- a plunge of a file
 
 module _ (p : Head) (n : ℕ) (f : List ℕ) (sides : Sides p) (d : Drawable p n f) (i : ℕ) (l : i < n) where
-  fit : Room p (plunge f i)
-  fit = room p (plunge f i) (d .fits i l)
+  fit : Room p (nthPlunge f i)
+  fit = room p (nthPlunge f i) (d .fits i l)
 
-  pub reach-small : plunge f i .reach .0 ≤ largestReach
+  pub reach-small : nthPlunge f i .reach .0 ≤ largestReach
   reach-small = omega (arith, fit .west, fit .east, sides .narrow)
 
-  pub centre-within : centreAt p (plunge f i) < area p
-  centre-within = let a : plunge f i .row < p .height = omega (arith, fit .south) in let b : plunge f i .column < p .width =
+  pub centre-within : centreAt p (nthPlunge f i) < area p
+  centre-within = let a : nthPlunge f i .row < p .height = omega (arith, fit .south) in let b : nthPlunge f i .column < p .width =
       omega (arith, fit .east) in digits-lt a b
 
-  whole : plungeIf f (place p i) ≡ OfPlunge (plunge f i)
+  whole : plungeIf f (place p i) ≡ OfPlunge (nthPlunge f i)
   whole = rw (le-leb _ _ reach-small)
 
   -- the plunge that was read is the file's
-  pub told : (m : MaybePlunge) (q : Plunge) → m ≡ plungeIf f (place p i) → m ≡ OfPlunge q → q ≡ plunge f i
+  pub told : (m : MaybePlunge) (q : Plunge) → m ≡ plungeIf f (place p i) → m ≡ OfPlunge q → q ≡ nthPlunge f i
   told m q e g = ap (λ (m : MaybePlunge). or-else m q) (sym g ∙ e ∙ whole)
     where
       or-else : MaybePlunge → Plunge → Plunge
       or-else (OfPlunge o) q = o
       or-else NoPlunge q = q
 
-  pub centre-told : (q : Plunge) → q ≡ plunge f i → centreAt p q < area p
+  pub centre-told : (q : Plunge) → q ≡ nthPlunge f i → centreAt p q < area p
   centre-told q e = subst (λ (q : Plunge). centreAt p q < area p) (sym e) centre-within
 
   pub told-none : (m : MaybePlunge) → m ≡ plungeIf f (place p i) → m ≡ NoPlunge → ⊥
@@ -100,14 +100,14 @@ module _ (f : List ℕ) where
       }
 
   -- one plunge more
-  pub ranges-more : (i r a t : ℕ) (first last : List ℕ) (top : ℕ) → Ranges f i first last top → r ≡ plunge f i .reach .0 → r ≤ largestReach
+  pub ranges-more : (i r a t : ℕ) (first last : List ℕ) (top : ℕ) → Ranges f i first last top → r ≡ nthPlunge f i .reach .0 → r ≤ largestReach
       → a ≡ cond (eqb (getD last r 0) 0) i (getD first r 0) → t ≡ max top r → Ranges f (i + 1) (set first r a) (set last r (i + 1)) t
   ranges-more i r a t first last top s e small begin high =
       record {
         first-size = length-set first r a ∙ s .first-size;
         last-size = length-set last r (i + 1) ∙ s .last-size;
-        starts = λ j h. starts′ j h (ℕ-discrete (plunge f j .reach .0) r);
-        ends = λ j h. ends′ j h (ℕ-discrete (plunge f j .reach .0) r);
+        starts = λ j h. starts′ j h (ℕ-discrete (nthPlunge f j .reach .0) r);
+        ends = λ j h. ends′ j h (ℕ-discrete (nthPlunge f j .reach .0) r);
         ordered = λ k. ordered′ k (ℕ-discrete k r);
         within = λ k. within′ k (ℕ-discrete k r);
         largest = λ j h. largest′ j h (decLe i j);
@@ -128,7 +128,7 @@ module _ (f : List ℕ) where
           go true g = omega arith
           go false g = omega (arith, s .ordered r, s .within r)
 
-      begin-before : (j : ℕ) → j < i → plunge f j .reach .0 ≡ r → a ≤ j
+      begin-before : (j : ℕ) → j < i → nthPlunge f j .reach .0 ≡ r → a ≤ j
       begin-before j h g = go (eqb (getD last r 0) 0) refl begin
         where
           in-last : j < getD last r 0
@@ -138,7 +138,7 @@ module _ (f : List ℕ) where
           go true k m = absurd (omega (arith, eqb-true (getD last r 0) 0 k, in-last))
           go false k m = let u : getD first r 0 ≤ j = subst (λ (k : ℕ). getD first k 0 ≤ j) g (s .starts j h) in omega arith
 
-      starts′ : (j : ℕ) → j < i + 1 → Dec (plunge f j .reach .0 ≡ r) → getD (set first r a) (plunge f j .reach .0) 0 ≤ j
+      starts′ : (j : ℕ) → j < i + 1 → Dec (nthPlunge f j .reach .0 ≡ r) → getD (set first r a) (nthPlunge f j .reach .0) 0 ≤ j
       starts′ j h (yes g) = subst (λ (k : ℕ). getD (set first r a) k 0 ≤ j) (sym g) (at-turn (decLe i j))
         where
           at-turn : Dec (i ≤ j) → getD (set first r a) r 0 ≤ j
@@ -146,17 +146,17 @@ module _ (f : List ℕ) where
           at-turn (no k) = omega (arith, first-here, begin-before j (omega arith) g)
       starts′ j h (no g) = earlier (decLe i j)
         where
-          earlier : Dec (i ≤ j) → getD (set first r a) (plunge f j .reach .0) 0 ≤ j
-          earlier (yes k) = let u : j ≡ i = omega arith in absurd (g (ap (λ (k : ℕ). plunge f k .reach .0) u ∙ sym e))
-          earlier (no k) = omega (arith, getD-set-other first r (plunge f j .reach .0) a 0 g, s .starts j (omega arith))
+          earlier : Dec (i ≤ j) → getD (set first r a) (nthPlunge f j .reach .0) 0 ≤ j
+          earlier (yes k) = let u : j ≡ i = omega arith in absurd (g (ap (λ (k : ℕ). nthPlunge f k .reach .0) u ∙ sym e))
+          earlier (no k) = omega (arith, getD-set-other first r (nthPlunge f j .reach .0) a 0 g, s .starts j (omega arith))
 
-      ends′ : (j : ℕ) → j < i + 1 → Dec (plunge f j .reach .0 ≡ r) → j < getD (set last r (i + 1)) (plunge f j .reach .0) 0
+      ends′ : (j : ℕ) → j < i + 1 → Dec (nthPlunge f j .reach .0 ≡ r) → j < getD (set last r (i + 1)) (nthPlunge f j .reach .0) 0
       ends′ j h (yes g) = subst (λ (k : ℕ). j < getD (set last r (i + 1)) k 0) (sym g) (omega (arith, last-here))
       ends′ j h (no g) = earlier (decLe i j)
         where
-          earlier : Dec (i ≤ j) → j < getD (set last r (i + 1)) (plunge f j .reach .0) 0
-          earlier (yes k) = let u : j ≡ i = omega arith in absurd (g (ap (λ (k : ℕ). plunge f k .reach .0) u ∙ sym e))
-          earlier (no k) = omega (arith, getD-set-other last r (plunge f j .reach .0) (i + 1) 0 g, s .ends j (omega arith))
+          earlier : Dec (i ≤ j) → j < getD (set last r (i + 1)) (nthPlunge f j .reach .0) 0
+          earlier (yes k) = let u : j ≡ i = omega arith in absurd (g (ap (λ (k : ℕ). nthPlunge f k .reach .0) u ∙ sym e))
+          earlier (no k) = omega (arith, getD-set-other last r (nthPlunge f j .reach .0) (i + 1) 0 g, s .ends j (omega arith))
 
       ordered′ : (k : ℕ) → Dec (k ≡ r) → getD (set first r a) k 0 ≤ getD (set last r (i + 1)) k 0
       ordered′ k (yes g) = subst (λ (k : ℕ). getD (set first r a) k 0 ≤ getD (set last r (i + 1)) k 0) (sym g)
@@ -167,8 +167,8 @@ module _ (f : List ℕ) where
       within′ k (yes g) = subst (λ (k : ℕ). getD (set last r (i + 1)) k 0 ≤ i + 1) (sym g) (omega (arith, last-here))
       within′ k (no g) = omega (arith, getD-set-other last r k (i + 1) 0 g, s .within k)
 
-      largest′ : (j : ℕ) → j < i + 1 → Dec (i ≤ j) → plunge f j .reach .0 ≤ t
-      largest′ j h (yes k) = let u : j ≡ i = omega arith in omega (arith, ap (λ (k : ℕ). plunge f k .reach .0) u)
+      largest′ : (j : ℕ) → j < i + 1 → Dec (i ≤ j) → nthPlunge f j .reach .0 ≤ t
+      largest′ j h (yes k) = let u : j ≡ i = omega arith in omega (arith, ap (λ (k : ℕ). nthPlunge f k .reach .0) u)
       largest′ j h (no k) = omega (arith, s .largest j (omega arith))
 
   pub ranges-end : (i n : ℕ) (first last : List ℕ) (top : ℕ) → i ≤ n → n ≤ i → Ranges f i first last top → Ranges f n first last top
@@ -181,29 +181,29 @@ module _ (p : Head) (f : List ℕ) (r : ℕ) where
   raised-none from old = record { same = refl; low = λ n. omega arith; bound = λ i h l. absurd (omega arith); met = λ n. inl refl }
 
   -- a plunge of another reach
-  pub raised-skip : (i : ℕ) (old : List ℕ) → (plunge f i .reach .0 ≡ r → ⊥) → Raised p f r i (i + 1) old old
+  pub raised-skip : (i : ℕ) (old : List ℕ) → (nthPlunge f i .reach .0 ≡ r → ⊥) → Raised p f r i (i + 1) old old
   raised-skip i old h =
       record {
         same = refl;
         low = λ n. omega arith;
-        bound = λ j a b e. let k : j ≡ i = omega arith in absurd (h (subst (λ (j : ℕ). plunge f j .reach .0 ≡ r) k e));
+        bound = λ j a b e. let k : j ≡ i = omega arith in absurd (h (subst (λ (j : ℕ). nthPlunge f j .reach .0 ≡ r) k e));
         met = λ n. inl refl;
       }
 
   -- a plunge of the reach
-  pub raised-one : (i v : ℕ) (old : List ℕ) → plunge f i .reach .0 ≡ r → centreAt p (plunge f i) < length old
-      → v ≡ max (getD old (centreAt p (plunge f i)) 0) (plunge f i .depth) → Raised p f r i (i + 1) old (set old (centreAt p (plunge f i)) v)
+  pub raised-one : (i v : ℕ) (old : List ℕ) → nthPlunge f i .reach .0 ≡ r → centreAt p (nthPlunge f i) < length old
+      → v ≡ max (getD old (centreAt p (nthPlunge f i)) 0) (nthPlunge f i .depth) → Raised p f r i (i + 1) old (set old (centreAt p (nthPlunge f i)) v)
   raised-one i v old e l g =
       record {
         same = length-set old k v;
         low = λ n. higher n (ℕ-discrete n k);
         bound = λ j a b u. let z : i ≡ j = omega arith in
-            subst (λ (j : ℕ). plunge f j .depth ≤ getD (set old k v) (centreAt p (plunge f j)) 0) z (omega (arith, here));
-        met = λ n. one n (ℕ-discrete n k) (decLe (plunge f i .depth) (getD old k 0));
+            subst (λ (j : ℕ). nthPlunge f j .depth ≤ getD (set old k v) (centreAt p (nthPlunge f j)) 0) z (omega (arith, here));
+        met = λ n. one n (ℕ-discrete n k) (decLe (nthPlunge f i .depth) (getD old k 0));
       }
     where
       k : ℕ
-      k = centreAt p (plunge f i)
+      k = centreAt p (nthPlunge f i)
 
       here : getD (set old k v) k 0 ≡ v
       here = getD-set-same old k v 0 l
@@ -212,7 +212,7 @@ module _ (p : Head) (f : List ℕ) (r : ℕ) where
       higher n (yes h) = subst (λ (n : ℕ). getD old n 0 ≤ getD (set old k v) n 0) (sym h) (omega (arith, here))
       higher n (no h) = omega (arith, getD-set-other old k n v 0 h)
 
-      one : (n : ℕ) → Dec (n ≡ k) → Dec (plunge f i .depth ≤ getD old k 0) → (getD (set old k v) n 0 ≡ getD old n 0) ⊎ Of p f r i (i + 1) (set old k v) n
+      one : (n : ℕ) → Dec (n ≡ k) → Dec (nthPlunge f i .depth ≤ getD old k 0) → (getD (set old k v) n 0 ≡ getD old n 0) ⊎ Of p f r i (i + 1) (set old k v) n
       one n (no h) d = inl (getD-set-other old k n v 0 h)
       one n (yes h) (yes d) = inl (subst (λ (n : ℕ). getD (set old k v) n 0 ≡ getD old n 0) (sym h) (omega (arith, here)))
       one n (yes h) (no d) = inr (
@@ -221,14 +221,14 @@ module _ (p : Head) (f : List ℕ) (r : ℕ) where
         omega arith,
         e,
         sym h,
-        subst (λ (n : ℕ). plunge f i .depth ≡ getD (set old k v) n 0) (sym h) (omega (arith, here)),
+        subst (λ (n : ℕ). nthPlunge f i .depth ≡ getD (set old k v) n 0) (sym h) (omega (arith, here)),
       )
 
   -- the same of a plunge that was read
-  pub raised-skip-told : (i : ℕ) (q : Plunge) (old : List ℕ) → q ≡ plunge f i → (q .reach .0 ≡ r → ⊥) → Raised p f r i (i + 1) old old
+  pub raised-skip-told : (i : ℕ) (q : Plunge) (old : List ℕ) → q ≡ nthPlunge f i → (q .reach .0 ≡ r → ⊥) → Raised p f r i (i + 1) old old
   raised-skip-told i q old e h = raised-skip i old (λ g. h (ap (λ (q : Plunge). q .reach .0) e ∙ g))
 
-  pub raised-one-told : (i v : ℕ) (q : Plunge) (old : List ℕ) → q ≡ plunge f i → q .reach .0 ≡ r → centreAt p q < length old
+  pub raised-one-told : (i v : ℕ) (q : Plunge) (old : List ℕ) → q ≡ nthPlunge f i → q .reach .0 ≡ r → centreAt p q < length old
       → v ≡ max (getD old (centreAt p q) 0) (q .depth) → Raised p f r i (i + 1) old (set old (centreAt p q) v)
   raised-one-told i v q old e g l k =
       subst (λ (q : Plunge). Raised p f r i (i + 1) old (set old (centreAt p q) v)) (sym e)
@@ -246,9 +246,9 @@ module _ (p : Head) (f : List ℕ) (r : ℕ) where
         met = λ n. which n (b .met n) (a .met n);
       }
     where
-      in-turn : (j : ℕ) → from ≤ j → j < to → plunge f j .reach .0 ≡ r → Dec (i ≤ j) → plunge f j .depth ≤ getD new (centreAt p (plunge f j)) 0
+      in-turn : (j : ℕ) → from ≤ j → j < to → nthPlunge f j .reach .0 ≡ r → Dec (i ≤ j) → nthPlunge f j .depth ≤ getD new (centreAt p (nthPlunge f j)) 0
       in-turn j u v e (yes d) = b .bound j d v e
-      in-turn j u v e (no d) = omega (arith, a .bound j u (omega arith) e, b .low (centreAt p (plunge f j)))
+      in-turn j u v e (no d) = omega (arith, a .bound j u (omega arith) e, b .low (centreAt p (nthPlunge f j)))
 
       which : (n : ℕ) → (getD new n 0 ≡ getD mid n 0) ⊎ Of p f r i to new n → (getD mid n 0 ≡ getD old n 0) ⊎ Of p f r from i mid n
           → (getD new n 0 ≡ getD old n 0) ⊎ Of p f r from to new n
@@ -259,7 +259,7 @@ module _ (p : Head) (f : List ℕ) (r : ℕ) where
   pub raised-end : (from i to : ℕ) (old new : List ℕ) → i ≤ to → to ≤ i → Raised p f r from i old new → Raised p f r from to old new
   raised-end from i to old new h l a = let k : i ≡ to = omega arith in subst (λ (j : ℕ). Raised p f r from j old new) k a
 
--- ---- levels
+-- ---- reach by reach
 
 -- a place lies in one row, at one column
 one-cell : (w x y i j : ℕ) → x < w → i < w → y * w + x ≡ j * w + i → (x ≡ i) × (y ≡ j)
@@ -288,18 +288,18 @@ module _ (p : Head) (n : ℕ) (f : List ℕ) (sides : Sides p) (d : Drawable p n
   abbrev qs : List Plunge
   qs = plungesUpTo n f
 
-  index : {q : Plunge} → List·Memᴰ q qs → (i : ℕ) × (i < n) × (q ≡ plunge f i)
-  index m = let t = gather-out n 0 (λ i. plunge f i ∷ []) m in (t .0, omega (arith, t .2), List·Memᴰ·eq-of-singleton (t .3))
+  index : {q : Plunge} → List·Memᴰ q qs → (i : ℕ) × (i < n) × (q ≡ nthPlunge f i)
+  index m = let t = gather-out n 0 (λ i. nthPlunge f i ∷ []) m in (t .0, omega (arith, t .2), List·Memᴰ·eq-of-singleton (t .3))
 
-  member : (i : ℕ) → i < n → List·Memᴰ (plunge f i) qs
-  member i l = each-in (plunge f) n 0 i (omega arith) (omega arith)
+  member : (i : ℕ) → i < n → List·Memᴰ (nthPlunge f i) qs
+  member i l = each-in (nthPlunge f) n 0 i (omega arith) (omega arith)
 
   fits-all : (q : Plunge) → List·Memᴰ q qs → fitsPlate p q ≡ true
   fits-all q m = let t = index m in subst (λ (q : Plunge). fitsPlate p q ≡ true) (sym (t .2)) (d .fits (t .0) (t .1))
 
   -- the plunges of one reach placed on a map
   module _ (r from to : ℕ) (g : Cell → ℕ) (old mid new : List ℕ) (m : Mapped p g old mid) (a : Raised p f r from to mid new) (has : (i : ℕ) → i < n
-      → plunge f i .reach .0 ≡ r → (from ≤ i) × (i < to)) (within : to ≤ n) where
+      → nthPlunge f i .reach .0 ≡ r → (from ≤ i) × (i < to)) (within : to ≤ n) where
     abbrev is-placed : Cell → Plunge → Bool
     is-placed c q = cond (eqb (q .reach .0) r) (eqb (dist (p .kind) (centre q) c) 0) false
 
@@ -329,7 +329,7 @@ module _ (p : Head) (n : ℕ) (f : List ℕ) (sides : Sides p) (d : Drawable p n
           go (inl e) = omega (arith, m .holds x y hx hy)
           go (inr (i, s, t, e, z, k)) =
               let l : i < n = omega arith in
-              let q = plunge f i in
+              let q = nthPlunge f i in
               let b : q .column < p .width = omega (arith, room p q (d .fits i l) .east) in
               let o = one-cell (p .width) (q .column) (q .row) x y b hx z in
               let c : centre q ≡ cell x y = ap (λ (j : ℕ). cell j (q .row)) (o .0) ∙ ap (λ (j : ℕ). cell x j) (o .1) in
@@ -347,7 +347,7 @@ module _ (p : Head) (n : ℕ) (f : List ℕ) (sides : Sides p) (d : Drawable p n
         past k l (inr (i, s, t, e, z, w)) = absurd (omega (arith, centre-within p n f sides d i (omega arith)))
 
   -- what a stretch of a reach has
-  has-all : (first last : List ℕ) (top : ℕ) → Ranges f n first last top → (r i : ℕ) → i < n → plunge f i .reach .0 ≡ r → (getD first r 0 ≤ i)
+  has-all : (first last : List ℕ) (top : ℕ) → Ranges f n first last top → (r i : ℕ) → i < n → nthPlunge f i .reach .0 ≡ r → (getD first r 0 ≤ i)
       × (i < getD last r 0)
   has-all first last top s r i l e = (subst (λ (k : ℕ). getD first k 0 ≤ i) e (s .starts i l), subst (λ (k : ℕ). i < getD last k 0) e (s .ends i l))
 
@@ -382,8 +382,8 @@ module _ (p : Head) (n : ℕ) (f : List ℕ) (sides : Sides p) (d : Drawable p n
       go c (inr z) = z mid ∙ sym (drawn-from-off p qs fits-all r c z)
 
   -- and 0 within its reach of the border
-  pub level-margin : (r k : ℕ) → r ≡ k → (old mid : List ℕ) → Mapped p (drawnFrom (p .kind) r qs) old mid → Margin p k mid
-  level-margin r k e old mid m =
+  pub reach-margin : (r k : ℕ) → r ≡ k → (old mid : List ℕ) → Mapped p (drawnFrom (p .kind) r qs) old mid → Margin p k mid
+  reach-margin r k e old mid m =
       subst (λ (k : ℕ). Margin p k mid) e
       (record {
         west = λ x y a b h. m .holds x y a b ∙ drawn-from-west p qs fits-all r x y h;

@@ -13,9 +13,9 @@ ghost use Rattle.geometry.specs.Plate.{area};
 ghost use Rattle.theory.specs.Listing.{drawn};
 ghost use Rattle.buffers.specs.Fill.{Mapped};
 ghost use Rattle.refusal.specs.Sides.{Sides};
-ghost use Rattle.reading.specs.Reading.{plungesUpTo};
-ghost use Rattle.drawing.specs.Levels.{drawnFrom};
-ghost use Rattle.drawing.specs.Files.{plunge, Drawable, reaches, Ranges, Raised};
+ghost use Rattle.reading.specs.Reading.{plungesUpTo, nthPlunge};
+ghost use Rattle.drawing.specs.Reaches.{drawnFrom};
+ghost use Rattle.drawing.specs.Files.{Drawable, reaches, Ranges, Raised};
 
 // How many reaches there are: from 0 to the largest.
 const REACHES: usize = (Reach::MAX.0 as usize) + 1;
@@ -25,7 +25,7 @@ const REACHES: usize = (Reach::MAX.0 as usize) + 1;
 // The reach of a plunge, as a number.
 fn reach_at(head: Head, file: &[u8], count: usize, i: usize) -> usize
     requires { ⌜ Sides head × Drawable head count (now file) × (i < count) ⌝ }
-    ensures { λ r. ⌜ r ≡ plunge (now (file .entry)) i .reach .0 ⌝ }
+    ensures { λ r. ⌜ r ≡ nthPlunge (now (file .entry)) i .reach .0 ⌝ }
 {
     let maybe = reading::nth_plunge(head, file, i);
     match maybe {
@@ -108,7 +108,7 @@ fn place_range(
 // ---- drawing
 
 // From the largest reach down: what is drawn so far grows by one, and the plunges of the next reach are placed.
-fn draw_levels(
+fn draw_reaches(
     head: Head,
     file: &[u8],
     count: usize,
@@ -140,5 +140,5 @@ pub fn draw_into(head: Head, file: &[u8], count: usize, map: &mut [u8])
     let mut last = [0usize; REACHES];
     buffers::zero_run(map, 0, height * width);
     let top = find_ranges(head, file, count, &mut first, &mut last);
-    draw_levels(head, file, count, &first, &last, top, map);
+    draw_reaches(head, file, count, &first, &last, top, map);
 }

@@ -1,4 +1,4 @@
--- Kinds as bytes, reaches and clearances (document 01, "Plate, kinds and distance" and "A form for each place").
+-- To be believed: kinds as bytes, reaches and clearances (document 01, "Plate, kinds and distance" and "A form for each place").
 use mathlib.Core.Bool.{cond}
 use Prim.Native.Nat.{ℕ, zero, suc}
 use lib.Dec.{leb, eqb}

@@ -1,4 +1,4 @@
--- The few words about lists and numbers that every definition is made of.
+-- To be believed: the few words about lists and numbers that every definition is made of.
 use mathlib.Core.Path.{_≡_}
 use mathlib.Core.Bool.{Bool, true, false, cond}
 use mathlib.Core.List.{List, [], _∷_, _++_}
@@ -20,11 +20,6 @@ module _ {A : Type 0} where
   abbrev pub any : (A → Bool) → List A → Bool
   any f [] = false
   any f (a ∷ more) = cond (f a) true (any f more)
-
-  -- every member has a property
-  abbrev pub All : (A → Type 0) → List A → Type 0
-  All P [] = Unit {0}
-  All P (a ∷ more) = P a × All P more
 
   -- v is f at one that is Among, and comes before f at every one that is, in the order R
   pub record Extreme (R : ℕ → ℕ → Type 0) (Among : A → Type 0) (f : A → ℕ) (v : ℕ) : Type 0 where

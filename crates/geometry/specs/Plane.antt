@@ -1,4 +1,4 @@
--- Cells of the whole plane, their distance, neighbours and balls (document 01, "Plate, kinds and distance"; source 000).
+-- To be believed: cells of the whole plane, their distance, neighbours and balls (document 01, "Plate, kinds and distance"; source 000).
 -- Balls near the edge of a plate reach past it, so columns and rows are whole numbers: negative ones lie left of the plate and above it.
 use mathlib.Core.List.{List, [], _∷_, _++_, map}
 use Prim.Native.Nat.{ℕ, zero, suc, _+_, _-_, _≤_, max}

@@ -1,4 +1,4 @@
--- A plate, and maps: a relief, or any other number for each cell, row after row (document 01, "Plate, kinds and distance").
+-- To be believed: a plate, and maps: a relief, or any other number for each cell, row after row (document 01, "Plate, kinds and distance").
 use mathlib.Core.Path.{_≡_}
 use mathlib.Core.Bool.{cond}
 use mathlib.Core.List.{List, [], _∷_, map}

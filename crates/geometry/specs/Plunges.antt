@@ -1,4 +1,4 @@
--- A plunge: what it holds, what it lies inside, where its ball lies (document 01, "Rungs, residues and listing").
+-- To be believed: a plunge: what it holds, what it lies inside, where its ball lies (document 01, "Rungs, residues and listing").
 -- What a plunge says of itself by a test has its meaning, over all cells of the plane, beside it; the laws join the two.
 use mathlib.Core.Bool.{Bool, false, cond}
 use Prim.Native.Nat.{ℕ, _+_, _≤_}

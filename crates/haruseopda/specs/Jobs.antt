@@ -1,4 +1,4 @@
--- What the C calls on job files hand back, by the inner answers.
+-- To be believed: what the C calls on job files hand back, by the inner answers.
 use mathlib.Core.Path.{_≡_}
 use lib.Ieee.{Float}
 use Rattle.geometry.specs.Forms.{kindByte}

@@ -141,7 +141,7 @@ pub extern "C" fn haru_reconstruct(
     of_verdict(clearance_maps::reconstruct(map, kind, width, height, out))
 }
 
-// A rung of a relief, into out.
+// An erosion of a relief (document 01's rung), into out.
 #[no_mangle]
 pub extern "C" fn haru_rung_map(
     relief: &[u8],

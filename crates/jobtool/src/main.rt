@@ -11,14 +11,15 @@ use reading::ReadAnswer;
 use refusal::Refusal;
 use refusal::Verdict;
 ghost use mathlib.Core.Path.{_≡_};
-ghost use Prim.Native.Nat.{_≤_};
+ghost use Prim.Native.Nat.{_*_, _≤_};
 ghost use lib.ListN.{length};
+ghost use Rattle.refusal.specs.Refusals.{largestSide};
 
 // The longest input and the longest answer, in bytes; the usage line tells it.
 const LIMIT: usize = 1048576;
 
 // The cells of the largest plate.
-const CELLS: usize = 57600;
+const CELLS: usize = (refusal::LARGEST_SIDE as usize) * (refusal::LARGEST_SIDE as usize);
 
 // A buffer for a file, and one with a byte for each cell.
 fn file_room() -> [u8; LIMIT]
@@ -28,7 +29,7 @@ fn file_room() -> [u8; LIMIT]
 }
 
 fn cells() -> [u8; CELLS]
-    ensures { λ r. ⌜ 57600 ≡ length r ⌝ }
+    ensures { λ r. ⌜ largestSide * largestSide ≡ length r ⌝ }
 {
     [0; CELLS]
 }

@@ -1,4 +1,4 @@
--- What the marks of a row, the rows of a level and the levels of a climb send is the listing.
+-- What the marks of a row, the rows of a reach and the reaches of a series of erosions send is the listing.
 use mathlib.Core.Path.{_≡_, refl, sym, ap, ap₂, _∙_, subst}
 use mathlib.Core.Logic.{_⊎_, inl, inr}
 use mathlib.Core.Bool.{Bool, true, false, cond}
@@ -24,7 +24,7 @@ use Rattle.theory.specs.Erosion.{erosion, highestNear, residue}
 use Rattle.theory.specs.Listing.{listedAt, listing}
 use Rattle.theory.proofs.Lists.{gather-same, gather-few}
 use Rattle.theory.proofs.Plate.{at-cell}
-use Rattle.theory.proofs.Listing.{listing-stops, level-few, listing-length}
+use Rattle.theory.proofs.Listing.{listing-stops, reach-few, listing-length}
 use Rattle.buffers.specs.Margin.{Margin}
 use Rattle.erosion_series.specs.Pairs.{Turn, Pair}
 use Rattle.erosion_series.proofs.Pairs.{mod-cases}
@@ -38,7 +38,7 @@ use Rattle.listing_pass.specs.declared.Pass.the-variants.{Count, Write, Compare
 use Rattle.listing_pass.specs.declared.Progress.{Progress}
 use Rattle.listing_pass.specs.Sent.{Sent, Room}
 use Rattle.listing_pass.proofs.Passes.{sent-none, sent-counted, sent-staged, gather-turn, gather-none, Sending, sending-fits}
-use Rattle.listing_plunges.specs.Rows.{counting, plungeOf, plungeAtPlace, onMark, markedPlace, markedAt, marksTo, rowPlunges, levelPlunges, pairPlunges}
+use Rattle.listing_plunges.specs.Rows.{counting, plungeOf, plungeAtPlace, onMark, markedPlace, markedAt, marksTo, rowPlunges, reachPlunges, pairPlunges}
 use Rattle.fields.specs.Lengths.{IsLength}
 use Rattle.refusal.specs.Refusals.{largestErosion}
 use Rattle.refusal.specs.Sides.{Sides}
@@ -147,8 +147,8 @@ room-as pass at qs os old e h = subst (λ (l : List Plunge). Room pass (at + plu
 -- ---- one level
 
 -- the plunges of the listing that have one reach
-abbrev pub listedLevel : Head → List ℕ → ℕ → List Plunge
-listedLevel p m r = gather (p .height) 0 (λ y. gather (p .width) 0 (λ x. listedAt p m r x y))
+abbrev pub listedReach : Head → List ℕ → ℕ → List Plunge
+listedReach p m r = gather (p .height) 0 (λ y. gather (p .width) 0 (λ x. listedAt p m r x y))
 
 -- a mark stands where a residue is above 0
 mark-residue : (a b : ℕ) (q : Plunge) → onMark (markOf a b) q ≡ cond (ltb 0 (a - b)) (q ∷ []) []
@@ -158,9 +158,9 @@ mark-residue a b q = go (ltb b a) refl
     go true e = let g : 0 < a - b = omega (arith, ltb-true b a e) in rw (e, lt-ltb _ _ g)
     go false e = let g : a - b ≤ 0 = omega (arith, ltb-false b a e) in rw (e, le-ltb _ _ g)
 
--- two buffers of a climb show the listing's plunges of one reach
-pub turn-level : (p : Head) (m : List ℕ) (k : ℕ) (cur other : List ℕ) → Turn p m (k + 1) cur other → levelPlunges p other cur k ≡ listedLevel p m k
-turn-level p m k cur other t =
+-- two buffers of a series show the listing's plunges of one reach
+pub turn-reach : (p : Head) (m : List ℕ) (k : ℕ) (cur other : List ℕ) → Turn p m (k + 1) cur other → reachPlunges p other cur k ≡ listedReach p m k
+turn-reach p m k cur other t =
     gather-same (p .height) 0 _ _ (λ y a b. gather-same (p .width) 0 _ _ (λ x c d. same x y (omega arith) (omega arith)))
   where
     same : (x y : ℕ) → x < p .width → y < p .height → markedAt (p .width) other k y x (markAt p other cur y x) ≡ listedAt p m k x y
@@ -172,23 +172,23 @@ turn-level p m k cur other t =
         ∙ ap₂ (λ (v e : ℕ). cond (ltb 0 v) (record { column = x; row = y; reach = record { 0 = k }; depth = e } ∷ []) [])
         (turn-residue p m (k + 1) cur other t (omega arith) x y h l ∙ ap (λ (j : ℕ). residue p m j (cell x y)) (add-one k)) d
 
--- after an even number of steps the first buffer has the rung, after an odd number the second
+-- after an even number of steps the first buffer has the erosion, after an odd number the second
 module _ (p : Head) (k : ℕ) (a b : List ℕ) where
-  pub even-plunges : k % 2 ≡ 0 → pairPlunges p k a b ≡ levelPlunges p b a (k - 1)
+  pub even-plunges : k % 2 ≡ 0 → pairPlunges p k a b ≡ reachPlunges p b a (k - 1)
   even-plunges e = rw (eq-eqb _ _ e)
 
-  pub odd-plunges : (k % 2 ≡ 0 → ⊥) → pairPlunges p k a b ≡ levelPlunges p a b (k - 1)
+  pub odd-plunges : (k % 2 ≡ 0 → ⊥) → pairPlunges p k a b ≡ reachPlunges p a b (k - 1)
   odd-plunges d = rw (ne-eqb _ _ d)
 
-pub pair-level : (p : Head) (m : List ℕ) (k : ℕ) (a b : List ℕ) → Pair p m (k + 1) a b → pairPlunges p (k + 1) a b ≡ listedLevel p m k
-pair-level p m k a b q = go (mod-cases (k + 1))
+pub pair-reach : (p : Head) (m : List ℕ) (k : ℕ) (a b : List ℕ) → Pair p m (k + 1) a b → pairPlunges p (k + 1) a b ≡ listedReach p m k
+pair-reach p m k a b q = go (mod-cases (k + 1))
   where
     i : k + 1 - 1 ≡ k
     i = omega arith
 
-    go : ((k + 1) % 2 ≡ 0) ⊎ ((k + 1) % 2 ≡ 1) → pairPlunges p (k + 1) a b ≡ listedLevel p m k
-    go (inl e) = even-plunges p (k + 1) a b e ∙ ap (levelPlunges p b a) i ∙ turn-level p m k a b (q .even e)
-    go (inr e) = odd-plunges p (k + 1) a b (λ z. omega arith) ∙ ap (levelPlunges p a b) i ∙ turn-level p m k b a (q .odd e)
+    go : ((k + 1) % 2 ≡ 0) ⊎ ((k + 1) % 2 ≡ 1) → pairPlunges p (k + 1) a b ≡ listedReach p m k
+    go (inl e) = even-plunges p (k + 1) a b e ∙ ap (reachPlunges p b a) i ∙ turn-reach p m k a b (q .even e)
+    go (inr e) = odd-plunges p (k + 1) a b (λ z. omega arith) ∙ ap (reachPlunges p a b) i ∙ turn-reach p m k b a (q .odd e)
 
 -- ---- reaches
 
@@ -209,18 +209,18 @@ reach-some k found h l e g = let z : OfReach (record { 0 = k - 1 }) ≡ NoReach 
 
 -- what a level asks and sends, by the reach that was found for its number
 module _ (p : Head) (prev cur : List ℕ) (k : ℕ) (reach : Reach) (same : k - 1 ≡ reach .0) where
-  pub level-margin : Margin p (k - 1) prev → Margin p (reach .0) prev
-  level-margin m = subst (λ (j : ℕ). Margin p j prev) same m
+  pub reach-margin : Margin p (k - 1) prev → Margin p (reach .0) prev
+  reach-margin m = subst (λ (j : ℕ). Margin p j prev) same m
 
-  pub level-plunges : levelPlunges p prev cur (k - 1) ≡ levelPlunges p prev cur (reach .0)
-  level-plunges = ap (levelPlunges p prev cur) same
+  pub reach-plunges : reachPlunges p prev cur (k - 1) ≡ reachPlunges p prev cur (reach .0)
+  reach-plunges = ap (reachPlunges p prev cur) same
 
 -- ---- the whole listing
 
 -- the listing, level by level
-pub listing-levels : (p : Head) (limit : ℕ) (m : List ℕ) → listing p limit m ≡ gather limit 0 (listedLevel p m)
+pub listing-reaches : (p : Head) (limit : ℕ) (m : List ℕ) → listing p limit m ≡ gather limit 0 (listedReach p m)
 unfolding listing
-listing-levels p limit m = refl
+listing-reaches p limit m = refl
 
 -- a listing can be counted in the four bytes of an end field
 pub listing-few : (p : Head) (m : List ℕ) → Sides p → length (listing p largestErosion m) < 4294967296
@@ -228,15 +228,15 @@ listing-few p m s = omega (arith, listing-length p largestErosion m, mul-le-mul 
 
 -- no place of a listing is too large for a length
 pub listing-is-length : (pass : Pass) (file : List ℕ) (p : Head) (m : List ℕ) (old mid : List ℕ) (k place : ℕ) → Sides p → k < largestErosion
-    → Sending pass file (listedLevel p m) headBytes old k mid place → IsLength (place + plungeBytes * area p)
+    → Sending pass file (listedReach p m) headBytes old k mid place → IsLength (place + plungeBytes * area p)
 listing-is-length pass file p m old mid k place sides h s =
     omega (
       arith,
-      sending-fits pass file (listedLevel p m) headBytes old k place mid s (area p) largestErosion (level-few p m) h,
+      sending-fits pass file (listedReach p m) headBytes old k place mid s (area p) largestErosion (reach-few p m) h,
       mul-le-mul (sides .low) (sides .narrow),
     )
 
 -- past an erosion that is 0 everywhere no level has plunges
-pub levels-end : (p : Head) (m : List ℕ) (k limit : ℕ) → k ≤ limit → ((c : Cell) → erosion p m k c ≡ 0)
-    → gather limit 0 (listedLevel p m) ≡ gather k 0 (listedLevel p m)
-levels-end p m k limit h z = sym (listing-levels p limit m) ∙ listing-stops p limit m k h z ∙ listing-levels p k m
+pub reaches-end : (p : Head) (m : List ℕ) (k limit : ℕ) → k ≤ limit → ((c : Cell) → erosion p m k c ≡ 0)
+    → gather limit 0 (listedReach p m) ≡ gather k 0 (listedReach p m)
+reaches-end p m k limit h z = sym (listing-reaches p limit m) ∙ listing-stops p limit m k h z ∙ listing-reaches p k m

@@ -23,7 +23,7 @@ use Rattle.listing_pass.specs.declared.Pass.{Pass}
 use Rattle.listing_pass.specs.declared.Progress.{Progress}
 use Rattle.listing_pass.specs.Sent.{Sent, Room}
 use Rattle.listing_pass.proofs.Passes.{sent-more, sent-stops, gather-parts, gather-turn, gather-none, Sending, sending-place, sending-same}
-use Rattle.listing_plunges.specs.Rows.{markedPlace, markedAt, marksTo, rowPlunges, placePlunge, levelPlunges}
+use Rattle.listing_plunges.specs.Rows.{markedPlace, markedAt, marksTo, rowPlunges, placePlunge, reachPlunges}
 use Rattle.listing_plunges.proofs.Plunges.{mark-few, marks-sent, marks-count, place-cell, row-none}
 use Rattle.refusal.specs.Refusals.{largestSide}
 
@@ -71,18 +71,18 @@ place-few p prev cur r n = mark-few (markNear (p .kind) (p .width) prev cur n) _
 -- ---- one level of a map that is 0 along the border
 
 module _ (p : Head) (prev cur : List ℕ) (r k : ℕ) (m : Margin p k prev) (one : 1 ≤ k) where
-  level-zero : ((x y : ℕ) → x < p .width → y < p .height → getD prev (y * p .width + x) 0 ≡ 0) → length (levelPlunges p prev cur r) ≡ 0
+  level-zero : ((x y : ℕ) → x < p .width → y < p .height → getD prev (y * p .width + x) 0 ≡ 0) → length (reachPlunges p prev cur r) ≡ 0
   level-zero z = ap length (gather-none (rowPlunges p prev cur r) (p .height) 0 (λ y a b. row-none p prev cur r y (λ x l. z x y l (omega arith))))
 
   -- a plate that the margin fills sends nothing
-  pub level-narrow : p .width < 3 → length (levelPlunges p prev cur r) ≡ 0
+  pub level-narrow : p .width < 3 → length (reachPlunges p prev cur r) ≡ 0
   level-narrow h = level-zero (λ x y a b. go x y a b (decLe 1 x))
     where
       go : (x y : ℕ) → x < p .width → y < p .height → Dec (1 ≤ x) → getD prev (y * p .width + x) 0 ≡ 0
       go x y a b (yes d) = m .east x y a b (omega arith)
       go x y a b (no d) = m .west x y a b (omega arith)
 
-  pub level-low : p .height < 2 * k + 1 → length (levelPlunges p prev cur r) ≡ 0
+  pub level-low : p .height < 2 * k + 1 → length (reachPlunges p prev cur r) ≡ 0
   level-low h = level-zero (λ x y a b. go x y a b (decLe k y))
     where
       go : (x y : ℕ) → x < p .width → y < p .height → Dec (k ≤ y) → getD prev (y * p .width + x) 0 ≡ 0
@@ -90,7 +90,7 @@ module _ (p : Head) (prev cur : List ℕ) (r k : ℕ) (m : Margin p k prev) (one
       go x y a b (no d) = m .north x y a b (omega arith)
 
   -- the level's plunges, place by place
-  pub level-places : levelPlunges p prev cur r ≡ gather (area p) 0 (placePlunge p prev cur r)
+  pub level-places : reachPlunges p prev cur r ≡ gather (area p) 0 (placePlunge p prev cur r)
   level-places = gather-flat (placePlunge p prev cur r) (p .width) (λ y x. markedAt (p .width) prev r y x (markAt p prev cur y x)) (p .height)
       (λ y x a b. same x y b a)
     where

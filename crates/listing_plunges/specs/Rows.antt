@@ -1,4 +1,4 @@
--- Serves proofs: the plunges of a row, of a run of places and of a level, read off two maps: one with the rung k−1 depths, one with the rung k depths.
+-- Serves proofs: the plunges of a row, of a run of places and of a reach, read off two maps: erosion k−1 and erosion k.
 use mathlib.Core.Bool.{Bool, true, false, cond}
 use mathlib.Core.List.{List, [], _∷_}
 use Prim.Native.Nat.{ℕ, _+_, _-_, _*_, _%_, _/_}
@@ -51,9 +51,9 @@ abbrev pub rowPlunges : Head → List ℕ → List ℕ → ℕ → ℕ → List 
 rowPlunges p prev cur r y = gather (p .width) 0 (λ x. markedAt (p .width) prev r y x (markAt p prev cur y x))
 
 -- those of all rows
-abbrev pub levelPlunges : Head → List ℕ → List ℕ → ℕ → List Plunge
-levelPlunges p prev cur r = gather (p .height) 0 (rowPlunges p prev cur r)
+abbrev pub reachPlunges : Head → List ℕ → List ℕ → ℕ → List Plunge
+reachPlunges p prev cur r = gather (p .height) 0 (rowPlunges p prev cur r)
 
--- those of rung number k, whose map is the first one after an even number of steps, the second after an odd number
+-- those of erosion number k, whose map is the first one after an even number of steps, the second after an odd number
 abbrev pub pairPlunges : Head → ℕ → List ℕ → List ℕ → List Plunge
-pairPlunges p k a b = cond (eqb (k % 2) 0) (levelPlunges p b a (k - 1)) (levelPlunges p a b (k - 1))
+pairPlunges p k a b = cond (eqb (k % 2) 0) (reachPlunges p b a (k - 1)) (reachPlunges p a b (k - 1))

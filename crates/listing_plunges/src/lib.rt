@@ -20,7 +20,7 @@ ghost use Rattle.fields.specs.Lengths.{IsLength};
 ghost use Rattle.residue_marks.specs.Marks.{markPlaces};
 ghost use Rattle.listing_pass.specs.Sent.{Sent, Room};
 ghost use Rattle.listing_plunges.specs.Listable.{Listable};
-ghost use Rattle.listing_plunges.specs.Rows.{counting, plungeAtPlace, marksTo, rowPlunges, placePlunge, levelPlunges, pairPlunges};
+ghost use Rattle.listing_plunges.specs.Rows.{counting, plungeAtPlace, marksTo, rowPlunges, placePlunge, reachPlunges, pairPlunges};
 
 // Sends the plunge of a place: place n is column n % width of row n / width.
 fn send_place(
@@ -178,8 +178,8 @@ fn send_rows(
     out: &mut [u8],
     at: usize,
 ) -> Progress
-    requires { ⌜ (1 ≤ head .width) × (head .width ≤ largestSide) × (head .height ≤ largestSide) × (area head ≤ length (now prev)) × (area head ≤ length (now cur)) × IsLength (at + plungeBytes * area head) × Room pass (at + plungeBytes * length (levelPlunges head (now prev) (now cur) (reach .0))) (now out) ⌝ }
-    ensures { λ r. ⌜ Sent pass (now (file .entry)) at (plungeFields (levelPlunges head (now (prev .entry)) (now (cur .entry)) (reach .0))) (now (out .entry)) (now (out .exit)) r ⌝ }
+    requires { ⌜ (1 ≤ head .width) × (head .width ≤ largestSide) × (head .height ≤ largestSide) × (area head ≤ length (now prev)) × (area head ≤ length (now cur)) × IsLength (at + plungeBytes * area head) × Room pass (at + plungeBytes * length (reachPlunges head (now prev) (now cur) (reach .0))) (now out) ⌝ }
+    ensures { λ r. ⌜ Sent pass (now (file .entry)) at (plungeFields (reachPlunges head (now (prev .entry)) (now (cur .entry)) (reach .0))) (now (out .entry)) (now (out .exit)) r ⌝ }
 {
     let height = head.height;
     let mut flags = [0u8; residue_marks::MARK_PLACES];
@@ -267,8 +267,8 @@ fn send_runs(
     out: &mut [u8],
     at: usize,
 ) -> Progress
-    requires { ⌜ (1 ≤ reach .0) × (head .width ≤ largestSide) × (head .height ≤ largestSide) × (area head ≤ length (now prev)) × (area head ≤ length (now cur)) × Margin head (reach .0) (now prev) × IsLength (at + plungeBytes * area head) × Room pass (at + plungeBytes * length (levelPlunges head (now prev) (now cur) (reach .0))) (now out) ⌝ }
-    ensures { λ r. ⌜ Sent pass (now (file .entry)) at (plungeFields (levelPlunges head (now (prev .entry)) (now (cur .entry)) (reach .0))) (now (out .entry)) (now (out .exit)) r ⌝ }
+    requires { ⌜ (1 ≤ reach .0) × (head .width ≤ largestSide) × (head .height ≤ largestSide) × (area head ≤ length (now prev)) × (area head ≤ length (now cur)) × Margin head (reach .0) (now prev) × IsLength (at + plungeBytes * area head) × Room pass (at + plungeBytes * length (reachPlunges head (now prev) (now cur) (reach .0))) (now out) ⌝ }
+    ensures { λ r. ⌜ Sent pass (now (file .entry)) at (plungeFields (reachPlunges head (now (prev .entry)) (now (cur .entry)) (reach .0))) (now (out .entry)) (now (out .exit)) r ⌝ }
 {
     let width = head.width as usize;
     let height = head.height as usize;
@@ -321,8 +321,8 @@ fn send_reach(
     out: &mut [u8],
     at: usize,
 ) -> Progress
-    requires { ⌜ (1 ≤ head .width) × (head .width ≤ largestSide) × (head .height ≤ largestSide) × (area head ≤ length (now prev)) × (area head ≤ length (now cur)) × Margin head (reach .0) (now prev) × IsLength (at + plungeBytes * area head) × Room pass (at + plungeBytes * length (levelPlunges head (now prev) (now cur) (reach .0))) (now out) ⌝ }
-    ensures { λ r. ⌜ Sent pass (now (file .entry)) at (plungeFields (levelPlunges head (now (prev .entry)) (now (cur .entry)) (reach .0))) (now (out .entry)) (now (out .exit)) r ⌝ }
+    requires { ⌜ (1 ≤ head .width) × (head .width ≤ largestSide) × (head .height ≤ largestSide) × (area head ≤ length (now prev)) × (area head ≤ length (now cur)) × Margin head (reach .0) (now prev) × IsLength (at + plungeBytes * area head) × Room pass (at + plungeBytes * length (reachPlunges head (now prev) (now cur) (reach .0))) (now out) ⌝ }
+    ensures { λ r. ⌜ Sent pass (now (file .entry)) at (plungeFields (reachPlunges head (now (prev .entry)) (now (cur .entry)) (reach .0))) (now (out .entry)) (now (out .exit)) r ⌝ }
 {
     if reach.0 == 0 {
         return send_rows(head, pass, reach, prev, cur, file, out, at);
@@ -330,8 +330,8 @@ fn send_reach(
     send_runs(head, pass, reach, prev, cur, file, out, at)
 }
 
-// Sends the plunges of rung number k, whose reach is one less.
-fn send_level(
+// Sends the plunges of erosion number k, whose reach is one less.
+fn send_erosion(
     head: Head,
     pass: Pass,
     k: usize,
@@ -341,8 +341,8 @@ fn send_level(
     out: &mut [u8],
     at: usize,
 ) -> Progress
-    requires { ⌜ (1 ≤ k) × (k ≤ largestErosion) × (1 ≤ head .width) × (head .width ≤ largestSide) × (head .height ≤ largestSide) × (area head ≤ length (now prev)) × (area head ≤ length (now cur)) × Margin head (k - 1) (now prev) × IsLength (at + plungeBytes * area head) × Room pass (at + plungeBytes * length (levelPlunges head (now prev) (now cur) (k - 1))) (now out) ⌝ }
-    ensures { λ r. ⌜ Sent pass (now (file .entry)) at (plungeFields (levelPlunges head (now (prev .entry)) (now (cur .entry)) (k - 1))) (now (out .entry)) (now (out .exit)) r ⌝ }
+    requires { ⌜ (1 ≤ k) × (k ≤ largestErosion) × (1 ≤ head .width) × (head .width ≤ largestSide) × (head .height ≤ largestSide) × (area head ≤ length (now prev)) × (area head ≤ length (now cur)) × Margin head (k - 1) (now prev) × IsLength (at + plungeBytes * area head) × Room pass (at + plungeBytes * length (reachPlunges head (now prev) (now cur) (k - 1))) (now out) ⌝ }
+    ensures { λ r. ⌜ Sent pass (now (file .entry)) at (plungeFields (reachPlunges head (now (prev .entry)) (now (cur .entry)) (k - 1))) (now (out .entry)) (now (out .exit)) r ⌝ }
 {
     let found = Reach::of_clearance(Clearance(k as u8));
     match found {
@@ -351,7 +351,7 @@ fn send_level(
     }
 }
 
-// Sends the plunges of rung number k from a climb's two buffers, that hold rungs k - 1 and k.
+// Sends the plunges of erosion number k from the two buffers of the series, that hold erosions k - 1 and k.
 fn send_pair(
     head: Head,
     pass: Pass,
@@ -366,12 +366,12 @@ fn send_pair(
     ensures { λ r. ⌜ Sent pass (now (file .entry)) at (plungeFields (pairPlunges head k (now (a .entry)) (now (b .entry)))) (now (out .entry)) (now (out .exit)) r ⌝ }
 {
     if k % 2 == 0 {
-        return send_level(head, pass, k, b, a, file, out, at);
+        return send_erosion(head, pass, k, b, a, file, out, at);
     }
-    send_level(head, pass, k, a, b, file, out, at)
+    send_erosion(head, pass, k, a, b, file, out, at)
 }
 
-// Sends the whole listing of a relief from behind the head on: rung after rung, up to one that is 0 everywhere, or to the first byte that is unlike.
+// Sends the whole listing of a relief from behind the head on: erosion after erosion, up to one that is 0 everywhere, or to the first byte that is unlike.
 pub fn send_listing(
     head: Head,
     pass: Pass,

@@ -14,6 +14,7 @@ use lib.Ieee.Back.{round-whole}
 use lib.Ieee.Order.{round-mono}
 use lib.Ieee.Positive.{num, den, positive, den-pos, own-value, value→cross, positive-of-value, le→cross, cross→le, values-of-le, between, mul-at}
 use Rattle.geometry.specs.declared.Plunge.{Plunge}
+use Rattle.geometry.specs.Forms.{largestReach}
 use Rattle.sink.specs.Sink.{micrometres, whole, sinkMillimetres}
 use Rattle.motion.specs.declared.Scale.{Scale}
 use Rattle.motion.specs.declared.Motion.{Motion}
@@ -228,7 +229,7 @@ most-sink d h = let l : d ≤ 255 = omega arith in let s : d * d ≤ 255 * 255 =
 
 -- ---- the motions
 
-pub change-printable : (s : Scale) (reach : ℕ) → scaleInRange s ≡ true → reach ≤ 119 → printable (changeWidth s reach) ≡ true
+pub change-printable : (s : Scale) (reach : ℕ) → scaleInRange s ≡ true → reach ≤ largestReach → printable (changeWidth s reach) ≡ true
 change-printable s reach e h =
     between-printable 2044 (changeWidth s reach) (lit< tt)
     (product (2 * (2 * reach + 1)) (s .«half_pitch») (omega arith) (omega arith)
@@ -255,7 +256,7 @@ printableMotion Stay = true
 printableMotion (Travel x y) = cond (printable x) (printable y) false
 printableMotion (Sink depth) = printable depth
 
-pub motions-printable : (s : Scale) (changed : Bool) (q : Plunge) → scaleInRange s ≡ true → q .reach .0 ≤ 119 → q .column < 256 → q .row < 256
+pub motions-printable : (s : Scale) (changed : Bool) (q : Plunge) → scaleInRange s ≡ true → q .reach .0 ≤ largestReach → q .column < 256 → q .row < 256
     → 1 ≤ q .depth → q .depth < 256
     → (printableMotion (motionsOf s changed q .first) ≡ true) × (printableMotion (motionsOf s changed q .second) ≡ true)
     × (printableMotion (motionsOf s changed q .third) ≡ true)

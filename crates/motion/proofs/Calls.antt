@@ -14,13 +14,13 @@ use Rattle.refusal.specs.declared.Verdict.{Verdict}
 use Rattle.refusal.specs.declared.Verdict.the-variants.{Accepted, Refused}
 use Rattle.refusal.specs.Refusals.{firstMet}
 use Rattle.reading.specs.declared.MaybePlunge.the-variants.{OfPlunge, NoPlunge}
-use Rattle.reading.specs.Reading.{IsReadable, fileTrials, plungeAt, total}
+use Rattle.reading.specs.Reading.{IsReadable, fileTrials, plungeAt, total, nthPlunge}
 use Rattle.reading.specs.Steps.{plungeIf}
 use Rattle.reading.proofs.Answers.{after-file, file-fault}
 use Rattle.motion.specs.declared.Scale.{Scale}
 use Rattle.motion.specs.declared.Motions.{Motions}
 use Rattle.motion.specs.declared.MotionAnswer.the-variants.{Moves, NoMoves}
-use Rattle.motion.specs.Motions.{scaleInRange, motionsOf, plungeNumber, changes, motionVerdict, motionAnswer, motionsIn}
+use Rattle.motion.specs.Motions.{scaleInRange, motionsOf, changes, motionVerdict, motionAnswer, motionsIn}
 use Rattle.fields.specs.Fields.{place}
 
 -- a field whose reach is one gives its plunge
@@ -37,7 +37,7 @@ no-plunge f at h e = let y : NoPlunge ≡ OfPlunge (plungeAt f at) = e ∙ is-pl
 pub changes-first : (f : List ℕ) (i : ℕ) → i ≡ 0 → true ≡ changes f i
 changes-first f i e = rw (eq-eqb i 0 e)
 
-pub changes-later : (f : List ℕ) (i : ℕ) (q o : Plunge) → (i ≡ 0 → ⊥) → q ≡ plungeNumber f i → o ≡ plungeNumber f (i - 1)
+pub changes-later : (f : List ℕ) (i : ℕ) (q o : Plunge) → (i ≡ 0 → ⊥) → q ≡ nthPlunge f i → o ≡ nthPlunge f (i - 1)
     → not (eqb (q .reach .0) (o .reach .0)) ≡ changes f i
 changes-later f i q o h e g =
     ap₂ (λ (a b : Plunge). not (eqb (a .reach .0) (b .reach .0))) e g ∙ sym (rw (ne-eqb i 0 h))
@@ -54,8 +54,8 @@ not-false false e = sym e
 -- ---- the answer
 
 module _ (f : List ℕ) (i : ℕ) (s : Scale) where
-  answer-of : (v : Verdict) → motionVerdict f i s ≡ v → motionAnswer v (motionsOf s (changes f i) (plungeNumber f i)) ≡ motionsIn f i s
-  answer-of v e = ap (λ (u : Verdict). motionAnswer u (motionsOf s (changes f i) (plungeNumber f i))) (sym e)
+  answer-of : (v : Verdict) → motionVerdict f i s ≡ v → motionAnswer v (motionsOf s (changes f i) (nthPlunge f i)) ≡ motionsIn f i s
+  answer-of v e = ap (λ (u : Verdict). motionAnswer u (motionsOf s (changes f i) (nthPlunge f i))) (sym e)
 
   pub file-refused : (r : Refusal) → firstMet (fileTrials f) ≡ Refused r → NoMoves r ≡ motionsIn f i s
   file-refused r e = answer-of (Refused r) (file-fault f _ r e)
@@ -66,5 +66,5 @@ module _ (f : List ℕ) (i : ℕ) (s : Scale) where
   pub number-refused : IsReadable f → scaleInRange s ≡ true → total f ≤ i → NoMoves (record { number = 14; place = 0 }) ≡ motionsIn f i s
   number-refused ok e h = answer-of (Refused (record { number = 14; place = 0 })) (after-file f _ ok ∙ rw (e, le-ltb i (total f) h))
 
-  pub moves : IsReadable f → scaleInRange s ≡ true → i < total f → (m : Motions) → m ≡ motionsOf s (changes f i) (plungeNumber f i) → Moves m ≡ motionsIn f i s
+  pub moves : IsReadable f → scaleInRange s ≡ true → i < total f → (m : Motions) → m ≡ motionsOf s (changes f i) (nthPlunge f i) → Moves m ≡ motionsIn f i s
   moves ok e h m g = ap Moves g ∙ answer-of Accepted (after-file f _ ok ∙ rw (e, lt-ltb i (total f) h))

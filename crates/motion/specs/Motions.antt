@@ -8,8 +8,7 @@ use Rattle.geometry.specs.declared.Plunge.{Plunge}
 use Rattle.refusal.specs.declared.Verdict.{Verdict}
 use Rattle.refusal.specs.declared.Verdict.the-variants.{Accepted, Refused}
 use Rattle.refusal.specs.Refusals.{trial, firstMet}
-use Rattle.fields.specs.Fields.{place}
-use Rattle.reading.specs.Reading.{fileTrials, headIn, plungeAt, total}
+use Rattle.reading.specs.Reading.{fileTrials, nthPlunge, total}
 use Rattle.sink.specs.Sink.{whole, sinkMillimetres}
 use Rattle.motion.specs.declared.Scale.{Scale}
 use Rattle.motion.specs.declared.Motion.the-variants.{Change, Stay, Travel, Sink}
@@ -55,13 +54,9 @@ motionsOf s changed q =
 
 -- ---- the call
 
--- plunge number i of a file
-abbrev pub plungeNumber : List ℕ → ℕ → Plunge
-plungeNumber f i = plungeAt f (place (headIn f) i)
-
 -- "Change comes for i = 0 or where the reach differs from plunge i−1"
 abbrev pub changes : List ℕ → ℕ → Bool
-changes f i = cond (eqb i 0) true (not (eqb (plungeNumber f i .reach .0) (plungeNumber f (i - 1) .reach .0)))
+changes f i = cond (eqb i 0) true (not (eqb (nthPlunge f i .reach .0) (nthPlunge f (i - 1) .reach .0)))
 
 -- "file faults in reading order; then 4, 13, 14": "13: a scale number outside its range or not a number", "14: plunge number not below the total"
 abbrev pub motionVerdict : List ℕ → ℕ → Scale → Verdict
@@ -72,4 +67,4 @@ motionAnswer Accepted m = Moves m
 motionAnswer (Refused r) m = NoMoves r
 
 abbrev pub motionsIn : List ℕ → ℕ → Scale → MotionAnswer
-motionsIn f i s = motionAnswer (motionVerdict f i s) (motionsOf s (changes f i) (plungeNumber f i))
+motionsIn f i s = motionAnswer (motionVerdict f i s) (motionsOf s (changes f i) (nthPlunge f i))

@@ -13,9 +13,9 @@ ghost use lib.Dec.{eqb};
 ghost use lib.ListN.{length, getD};
 ghost use Rattle.geometry.specs.Forms.{largestReach};
 ghost use Rattle.fields.specs.Fields.{plungeBytes, place};
-ghost use Rattle.reading.specs.Reading.{total, IsReadable};
+ghost use Rattle.reading.specs.Reading.{total, IsReadable, nthPlunge};
 ghost use Rattle.reading.specs.Steps.{JobOf};
-ghost use Rattle.motion.specs.Motions.{within, scaleInRange, changeWidth, travelTo, motionsOf, plungeNumber, changes, motionsIn};
+ghost use Rattle.motion.specs.Motions.{within, scaleInRange, changeWidth, travelTo, motionsOf, changes, motionsIn};
 
 // Millimetres: half the pitch of the cells, and where column 0 and row 0 begin.
 pub struct Scale {
@@ -115,7 +115,7 @@ pub fn motions_of(scale: Scale, changed: bool, q: Plunge) -> Motions
 // Plunge number i, read where its field stands.
 fn plunge_number(head: Head, file: &[u8], i: usize) -> Plunge
     requires { ⌜ (place head i + plungeBytes ≤ length (now file)) × (getD (now file) (place head i + 5) 0 ≤ largestReach) ⌝ }
-    ensures { λ r. ⌜ r ≡ plungeNumber (now (file .entry)) i ⌝ }
+    ensures { λ r. ⌜ r ≡ nthPlunge (now (file .entry)) i ⌝ }
 {
     let found = reading::nth_plunge(head, file, i);
     match found {

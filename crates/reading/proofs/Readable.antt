@@ -204,20 +204,20 @@ module _ (p : Head) (f : List ℕ) where
       ∙ sym (content-end p f (place p n) n Accepted (t .0) (end-right f (place p n) n (t .1) (omega arith)))
 
   -- the fields of a list of right plunges, and the end, refuse nothing
-  walk-written : (more n m : ℕ) (qs : List Plunge) → drop (place p n) f ≡ plungeFields qs ++ endField m → n + length qs ≡ m → m < 4294967296
+  written-read : (more n m : ℕ) (qs : List Plunge) → drop (place p n) f ≡ plungeFields qs ++ endField m → n + length qs ≡ m → m < 4294967296
       → length f ≡ place p m + endBytes
       → length qs < more → ((q : Plunge) → List·Memᴰ q qs → (fitsPlate p q ≡ true) × (1 ≤ q .depth)) → firstMet (fieldsFrom more p f n) ≡ Accepted
-  walk-written zero n m qs e s h w l r = absurd (omega arith)
-  walk-written (suc more) n m [] e s h w l r =
+  written-read zero n m qs e s h w l r = absurd (omega arith)
+  written-read (suc more) n m [] e s h w l r =
       let k : m ≡ n = omega arith in
       fields-step more p f n
       ∙ ap (λ x. afterStep x (firstMet (fieldsFrom more p f (suc n))))
       (step-ended n [] (e ∙ ap endField k ∙ sym (append-nil (endField n))) (omega arith) (omega arith))
-  walk-written (suc more) n m (q ∷ qs) e s h w l r =
+  written-read (suc more) n m (q ∷ qs) e s h w l r =
       let here = r q (List·Memᴰ·head refl) in
       fields-step more p f n
       ∙ ap (λ x. afterStep x (firstMet (fieldsFrom more p f (suc n)))) (step-onward n q (plungeFields qs ++ endField m) e (omega arith) (here .0) (here .1))
-      ∙ walk-written more (suc n) m qs (next-field f m n q qs e) (omega arith) h w (omega arith) (λ o a. r o (List·Memᴰ·tail a))
+      ∙ written-read more (suc n) m qs (next-field f m n q qs e) (omega arith) h w (omega arith) (λ o a. r o (List·Memᴰ·tail a))
 
 sides-good : (w h : ℕ) → 1 ≤ w → w ≤ largestSide → 1 ≤ h → h ≤ largestSide → badSides w h ≡ false
 sides-good w h a b c d = rw (le-leb 1 w a, le-leb w largestSide b, le-leb 1 h c, le-leb h largestSide d)
@@ -238,7 +238,7 @@ encoded-readable p qs w =
     (head-written p (plungeFields qs ++ endField (length qs))
     (sides-good (p .width) (p .height) (w .sides .wide) (w .sides .narrow) (w .sides .tall) (w .sides .low))) in
     let fields : firstMet (fieldsFrom (suc (length f)) p f 0) ≡ Accepted =
-    walk-written p f (suc (length f)) 0 (length qs) qs (encoded-fields p qs) (omega arith) (w .few) (omega (arith, encoded-length p qs))
+    written-read p f (suc (length f)) 0 (length qs) qs (encoded-fields p qs) (omega arith) (w .few) (omega (arith, encoded-length p qs))
     (omega (arith, encoded-length p qs)) (w .right) in
     file-first f
     ∙ ap (λ v. andThen v (firstMet (fieldsFrom (suc (length f)) (headIn f) f 0))) head

@@ -93,9 +93,12 @@ IsReadable f = firstMet (fileTrials f) ≡ Accepted
 abbrev pub total : List ℕ → ℕ
 total f = (length f - fileLength (headIn f) 0) / plungeBytes
 
--- the first n plunges, in their order; all plunges
+-- plunge number i of a file, from 0; the first n plunges, in their order; all plunges
+abbrev pub nthPlunge : List ℕ → ℕ → Plunge
+nthPlunge f i = plungeAt f (place (headIn f) i)
+
 abbrev pub plungesUpTo : ℕ → List ℕ → List Plunge
-plungesUpTo n f = gather n 0 (λ i. plungeAt f (place (headIn f) i) ∷ [])
+plungesUpTo n f = gather n 0 (λ i. nthPlunge f i ∷ [])
 
 abbrev pub plungesIn : List ℕ → List Plunge
 plungesIn f = plungesUpTo (total f) f

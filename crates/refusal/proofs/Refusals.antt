@@ -115,7 +115,7 @@ map-sound k w h wrong n = go (badKind k)
     go true v = absurd (refused-not 1 v)
     go false v = sound w h wrong n v
 
--- a rung number that was not refused
+-- the number of an erosion that was not refused
 pub erosion-number-ok : (n : ℕ) → not (isErosionNumber n) ≡ false → (1 ≤ n) × (n ≤ largestErosion)
 erosion-number-ok n = go (leb 1 n) (leb n largestErosion) refl refl
   where

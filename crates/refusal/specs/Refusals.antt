@@ -1,4 +1,4 @@
--- Refusals: "a number with a place" (document 01, "Refusals in their order"). What is tried, in which order, and what is left in a buffer.
+-- To be believed: refusals: "a number with a place" (document 01, "Refusals in their order"). What is tried, in which order, and what is left in a buffer.
 use mathlib.Core.Path.{_≡_}
 use mathlib.Core.Bool.{Bool, true, false, cond, not}
 use mathlib.Core.List.{List, [], _∷_, _++_}
@@ -36,11 +36,11 @@ largestSide = 240
 abbrev pub isSide : ℕ → Bool
 isSide n = cond (leb 1 n) (leb n largestSide) false
 
--- the largest rung and residue number
+-- "rung or residue number not 1 to 120": the largest number of an erosion and of a residue
 abbrev pub largestErosion : ℕ
 largestErosion = 120
 
--- a number from 1 to the largest rung
+-- a number from 1 to the largest
 abbrev pub isErosionNumber : ℕ → Bool
 isErosionNumber n = cond (leb 1 n) (leb n largestErosion) false
 

@@ -1,4 +1,4 @@
--- The sides of a plate that passed refusal 2.
+-- Serves proofs: the sides of a plate that passed refusal 2.
 use Prim.Native.Nat.{_≤_}
 use Rattle.geometry.specs.declared.Head.{Head}
 use Rattle.refusal.specs.Refusals.{largestSide}

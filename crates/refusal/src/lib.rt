@@ -21,7 +21,7 @@ pub enum Verdict {
 // A plate's side is 1 to this.
 pub const LARGEST_SIDE: u16 = 240;
 
-// A rung or residue number is 1 to this.
+// The number of an erosion (document 01's rung) or of a residue is 1 to this.
 pub const LARGEST_EROSION: u16 = 120;
 
 fn is_side(n: u16) -> bool
@@ -30,7 +30,7 @@ fn is_side(n: u16) -> bool
     if 1 <= n { n <= LARGEST_SIDE } else { false }
 }
 
-// Whether a number is one of a rung or a residue.
+// Whether a number is one of an erosion or a residue.
 pub fn is_erosion_number(n: u16) -> bool
     ensures { λ r. ⌜ r ≡ isErosionNumber n ⌝ }
 {

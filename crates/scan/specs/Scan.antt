@@ -1,4 +1,4 @@
--- Document 01's input of the program `plunges`: "kind, width, height (a missing one counts as 0), then depths".
+-- To be believed: Document 01's input of the program `plunges`: "kind, width, height (a missing one counts as 0), then depths".
 use mathlib.Core.List.{List}
 use Prim.Native.Nat.{ℕ}
 use lib.ListN.{drop, getD}

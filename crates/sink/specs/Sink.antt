@@ -1,4 +1,4 @@
--- The sink of a depth (document 01, "Press motions").
+-- To be believed: the sink of a depth (document 01, "Press motions").
 use Prim.Native.Nat.{ℕ, _+_, _*_, _/_}
 use lib.IntN.{pos}
 use lib.Ieee.{Float, binary64, ofInt, div}

@@ -1,4 +1,4 @@
--- Document 01's text of a list, in ASCII.
+-- To be believed: Document 01's text of a list, in ASCII.
 use mathlib.Core.Path.{_≡_}
 use mathlib.Core.Bool.{cond}
 use mathlib.Core.List.{List, [], _∷_, _++_}

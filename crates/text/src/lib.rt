@@ -114,13 +114,13 @@ fn put_plunges(fd: i32, file: &[u8], plunges: usize, page: &mut [u8], start: usi
     ensures { λ r. ⌜ r .used ≤ length (now (page .entry)) ⌝ }
 {
     let mut used = start;
-    let mut at = 6;
+    let mut at = fields::HEAD_BYTES;
     let mut i = 0;
     while i < plunges {
-        if file.len() < 7 {
+        if file.len() < fields::PLUNGE_BYTES {
             return Page { used, ok: false };
         }
-        if file.len() - 7 < at {
+        if file.len() - fields::PLUNGE_BYTES < at {
             return Page { used, ok: false };
         }
         let room = make_room(fd, page, used);
@@ -135,7 +135,7 @@ fn put_plunges(fd: i32, file: &[u8], plunges: usize, page: &mut [u8], start: usi
             file[at + 5],
             file[at + 6],
         );
-        at += 7;
+        at += fields::PLUNGE_BYTES;
         i += 1;
     }
     Page { used, ok: true }
@@ -155,7 +155,7 @@ fn put_total(page: &mut [u8], at: usize, plunges: usize) -> usize
 
 // The text of a readable file with so many plunges; gives whether all of it was written.
 pub fn print_file(fd: i32, file: &[u8], plunges: usize) -> bool {
-    if file.len() < 6 {
+    if file.len() < fields::HEAD_BYTES {
         return false;
     }
     let mut page = io::large_buffer();

@@ -4,18 +4,18 @@ use mathlib.Core.Path.{_≡_, refl, _∙_}
 use mathlib.Core.List.{List, [], _∷_, map}
 use Prim.Native.Nat.{ℕ, _*_, _≤_, min}
 use native.Mathlib.Omega.{arith}
-use Rattle.geometry.specs.Lists.{All}
 use Rattle.geometry.specs.Plate.{tabulated}
 use Rattle.theory.specs.Erosion.{largestResidue, residueSum}
 use Rattle.theory.specs.Levels.{clearance, axis, reconstructed}
 use Rattle.theory.specs.Listing.{drawing}
 use Rattle.theory.specs.Blocks.{Block, answers, blocks}
+use Rattle.theory.proofs.Lists.{All}
 use Rattle.theory.proofs.Answers.{computed}
 use Rattle.theory.proofs.Plate.{tabulated-same}
 use Rattle.theory.proofs.Residues.{largestResidue-limit, residueSum-limit}
 use Rattle.theory.proofs.Listing.{listing-limit}
 
--- a block that two rungs empty
+-- a block that two erosions empty
 abbrev Small : Block → Type 0
 Small b = min (b .plate .width) (b .plate .height) ≤ 2 * 2
 

@@ -7,7 +7,7 @@ use native.Mathlib.Decide.{decLe}
 use lib.IntN.{ℤ, pos, negsuc, sucℤ, predℤ}
 use Rattle.geometry.specs.declared.Kind.{Kind}
 use Rattle.geometry.specs.declared.Kind.the-variants.{Diamond, Square}
-use Rattle.geometry.specs.Lists.{All}
+use Rattle.theory.proofs.Lists.{All}
 use Rattle.geometry.specs.Plane.{Cell, gap, dist, neighbours, west, east, north, south}
 
 -- ---- one dimension

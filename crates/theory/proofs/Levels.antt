@@ -323,7 +323,7 @@ module _ (p : Head) (m : List ℕ) (c : Cell) where
       go h (inr e) = e
 
 module _ (p : Head) (m : List ℕ) (t : ℕ) (level : 1 ≤ t) where
-  -- from a cell whose ball reaches c, climb to larger clearances; the limit ends the climb
+  -- from a cell whose ball reaches c, go on to larger clearances, of which the limit is the last
   reach-axis : (limit : ℕ) → min (p .width) (p .height) ≤ 2 * limit → (n : ℕ) (c o : Cell) → limit ≤ clearance p m t o + n
       → dist (p .kind) o c < clearance p m t o → (a : Cell) × (dist (p .kind) a c < axis p m t a)
   reach-axis limit s zero c o g h = go (axis-cases p m t level o)

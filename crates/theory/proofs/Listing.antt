@@ -117,7 +117,7 @@ cell-same Diamond a b c d h = omega arith
 cell-same Square a b c d h = omega arith
 
 module _ (p : Head) (limit : ℕ) (m : List ℕ) (sides : min (p .width) (p .height) ≤ 2 * limit) where
-  -- the key lemma: where the residue is 0, a ball of one reach more about the cell or a neighbour fits and contains the ball; climbing ends at the limit
+  -- the key lemma: where the residue is 0, a ball of one reach more about the cell or a neighbour fits and contains the ball; at the limit there is none
   pub enlarge : (n k : ℕ) (c : Cell) (v : ℕ) → k + n ≡ limit → 1 ≤ v → v ≤ erosion p m k c → (q : Plunge) × List·Memᴰ q (listing p limit m)
       × BallWithin (p .kind) c k (centre q) (q .reach .0) × (v ≤ q .depth)
   enlarge zero k c v e h l = absurd (let g : k ≡ limit = omega arith in omega (arith, rw g at l, erosion-top p m limit sides c))
@@ -206,8 +206,8 @@ module _ (p : Head) (limit : ℕ) (m : List ℕ) (sides : min (p .width) (p .hei
 -- ---- how long a listing can be
 
 -- the plunges of one reach: at most one for each cell
-pub level-few : (p : Head) (m : List ℕ) (r : ℕ) → length (gather (p .height) 0 (λ y. gather (p .width) 0 (λ x. listedAt p m r x y))) ≤ area p
-level-few p m r =
+pub reach-few : (p : Head) (m : List ℕ) (r : ℕ) → length (gather (p .height) 0 (λ y. gather (p .width) 0 (λ x. listedAt p m r x y))) ≤ area p
+reach-few p m r =
     gather-few _ (p .width) (λ y. omega (arith, gather-few (λ x. listedAt p m r x y) 1 (one y) (p .width) 0, mul-one (p .width))) (p .height) 0
   where
     few : (t : Bool) (q : Plunge) → length (cond t (q ∷ []) []) ≤ 1
@@ -219,4 +219,4 @@ level-few p m r =
 
 pub listing-length : (p : Head) (limit : ℕ) (m : List ℕ) → length (listing p limit m) ≤ limit * area p
 unfolding listing
-listing-length p limit m = gather-few _ (area p) (level-few p m) limit 0
+listing-length p limit m = gather-few _ (area p) (reach-few p m) limit 0

@@ -16,6 +16,11 @@ use Rattle.geometry.specs.Plane.{Cell, crossing}
 -- ---- gather
 
 module _ {A : Type 0} where
+  -- every member has a property
+  abbrev pub All : (A → Type 0) → List A → Type 0
+  All P [] = Unit {0}
+  All P (a ∷ more) = P a × All P more
+
   pub gather-in : {a : A} (n i : ℕ) (f : ℕ → List A) (j : ℕ) → i ≤ j → j < i + n → List·Memᴰ a (f j) → List·Memᴰ a (gather n i f)
   gather-in zero i f j h l m = absurd (omega arith)
   gather-in {a} (suc n) i f j h l m = go (decLe j i) (λ g e. gather-in n (suc i) f j g e m)

@@ -1,4 +1,4 @@
--- The blocks that document 01 marks M ("Blocks to try"), as records, with what the definitions give for them and what is asked.
+-- To be believed: the blocks that document 01 marks M ("Blocks to try"), as records, with what the definitions give for them and what is asked.
 use mathlib.Core.List.{List, [], _∷_}
 use Prim.Native.Nat.{ℕ}
 use lib.ListN.{replicate}

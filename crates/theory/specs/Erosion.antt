@@ -1,4 +1,4 @@
--- Erosions of a relief, their residues, scores, and the volume (document 01, "Rungs, residues and listing" and "Scores and volume"; source 002).
+-- To be believed: erosions of a relief, their residues, scores, and the volume (document 01, "Rungs, residues and listing" and "Scores and volume"; source 002).
 -- Document 01's rung is the field's erosion. A limit stands for its largest rung number, 120, so that every law holds for any.
 use mathlib.Core.List.{List, [], _∷_, map}
 use Prim.Native.Nat.{ℕ, zero, suc, _-_}

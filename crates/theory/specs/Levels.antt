@@ -1,4 +1,4 @@
--- One level at a time: shape, clearance, medial axis, reconstruction (document 01, "One level at a time"; source 000).
+-- To be believed: one level at a time: shape, clearance, medial axis, reconstruction (document 01, "One level at a time"; source 000).
 -- Document 01's clearance map is the field's distance map, its axis map the medial axis, its drawing back the reconstruction.
 use mathlib.Core.Path.{_≡_}
 use mathlib.Core.Bool.{cond}

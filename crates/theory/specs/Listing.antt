@@ -1,4 +1,4 @@
--- Plunges that fit a relief, its listing, the drawing of a list and its canonical form (document 01, "Rungs, residues and listing" and "Plunge file, drawing, tidying").
+-- To be believed: plunges that fit a relief, its listing, the drawing of a list and its canonical form (document 01, "Rungs, residues and listing" and "Plunge file, drawing, tidying").
 -- Document 01's tidied list is the canonical form of a list.
 use mathlib.Core.Path.{_≡_}
 use mathlib.Core.Logic.{_⊎_}

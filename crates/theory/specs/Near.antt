@@ -1,4 +1,4 @@
--- The lowest near a cell: the next erosion is made of it.
+-- Serves proofs: the lowest near a cell: the next erosion is made of it.
 use mathlib.Core.List.{map}
 use Prim.Native.Nat.{ℕ}
 use Rattle.geometry.specs.declared.Kind.{Kind}

@@ -1,4 +1,4 @@
--- `draw_into` draws by levels on a plate of zeros; the last level is the drawing.
+-- `draw_into` draws reach by reach on a plate of zeros; the last is the drawing.
 use native.Mathlib.Omega.{arith}
 use Rattle.drawing.proofs.Files.{drawn-mapped, zeroed}
 use borrow.Author.Needs.{needs}
@@ -20,8 +20,8 @@ zero-run-requires c κs = search needs
 find-ranges-requires : tie.Need-find-ranges-requires
 find-ranges-requires c κs = search needs
 
-draw-levels-requires : tie.Need-draw-levels-requires
-draw-levels-requires c κs =
+draw-reaches-requires : tie.Need-draw-reaches-requires
+draw-reaches-requires c κs =
     let at-find-ranges = c .before .before .before in
     let at-zero-run = at-find-ranges .before .before .before .before .before in
     let s = at-zero-run .before .before .before .before .before .before in (
@@ -40,7 +40,7 @@ returns c =
     let at-zero-run = c .before .before .before .before .before .before .before .before .before .before .before in
     let s = at-zero-run .before .before .before .before .before .before in
     drawn-mapped (s .args .head) (s .args .count) _ (s .pre .0) (s .pre .1) _ _ _ (at-zero-run .zero-run .ensures)
-    (c .before .before .draw-levels .ensures)
+    (c .before .before .draw-reaches .ensures)
 
 pub draw-into-spec : {M : Type 1} → statement M
 draw-into-spec =
@@ -51,6 +51,6 @@ draw-into-spec =
     mul-zero-run
     zero-run-requires
     find-ranges-requires
-    draw-levels-requires
+    draw-reaches-requires
     same-length
     returns)

@@ -1,15 +1,15 @@
 -- `place_one` raises the number at the centre of a plunge of the reach, and does nothing for another.
 use native.Mathlib.Omega.{arith}
 use mathlib.Core.Path.{_≡_}
-use Rattle.drawing.specs.Files.{plunge}
 use Rattle.drawing.proofs.Files.{told, told-none, centre-told, raised-one-told, raised-skip-told}
+use Rattle.reading.specs.Reading.{nthPlunge}
 use borrow.Author.Needs.{needs}
 use Rattle.drawing.proofs.place_one.Statement.{statement}
 use Rattle.drawing.proofs.place_one.Tie as tie
 
 -- the plunge that was read is the file's
 read : (c : tie.After-maybe) → let given = c .before .before .before .before .before .before .args in
-    c .maybe .given .0 .0 ≡ plunge (given .file .now) (given .i)
+    c .maybe .given .0 .0 ≡ nthPlunge (given .file .now) (given .i)
 read c =
     let s = c .before .before .before .before .before .before in
     told (s .args .head) (s .args .count) _ (s .pre .0) (s .pre .1) (s .args .i) (s .pre .2) _ _

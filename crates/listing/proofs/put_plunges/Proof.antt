@@ -1,4 +1,4 @@
--- `put_plunges` copies what was kept, or makes the climb that writes.
+-- `put_plunges` copies what was kept, or makes the pass that writes.
 use Rattle.theory.specs.Listing.{listing}
 use Rattle.refusal.specs.Refusals.{largestErosion}
 use Rattle.erosion_series.proofs.Pairs.{kept-none}

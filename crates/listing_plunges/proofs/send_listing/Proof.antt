@@ -1,4 +1,4 @@
--- `walk` sends one level at each step of the climb: the invariant is where the climb is, and that the levels so far are sent.
+-- `send_listing` sends the plunges of one reach at each erosion: the invariant is what the buffers hold, and that the plunges so far are sent.
 use mathlib.Core.Path.{_≡_, refl, _∙_}
 use Prim.Native.Nat.{_-_, _≤_}
 use native.Mathlib.Omega.{arith}

@@ -6,8 +6,8 @@ use borrow.Author.Needs.{needs}
 use Rattle.listing_plunges.proofs.send_pair.Statement.{statement}
 use Rattle.listing_plunges.proofs.send_pair.Tie as tie
 
-send-level-requires : tie.Need-send-level-requires
-send-level-requires c κs =
+send-erosion-requires : tie.Need-send-erosion-requires
+send-erosion-requires c κs =
     let at-start = c .before .before .before .before .before .before in
     let given = at-start .args in (
       at-start .pre .0,
@@ -33,10 +33,10 @@ returns c =
     let given = at-start .args in
     sent-as (given .pass) (given .file .now) (given .at) _ _ (given .out .now) _ _
     (sym (even-plunges (given .head) (given .k) (given .a .now) (given .b .now) (at-if1 .if1 .taken)))
-    (c .before .before .send-level .ensures)
+    (c .before .before .send-erosion .ensures)
 
-send-level-requires-2 : tie.Need-send-level-requires-2
-send-level-requires-2 c κs =
+send-erosion-requires-2 : tie.Need-send-erosion-requires-2
+send-erosion-requires-2 c κs =
     let at-start = c .before .before .before .before .before .before in
     let given = at-start .args in (
       at-start .pre .0,
@@ -62,15 +62,15 @@ returns-2 c =
     let given = at-start .args in
     sent-as (given .pass) (given .file .now) (given .at) _ _ (given .out .now) _ _
     (sym (odd-plunges (given .head) (given .k) (given .a .now) (given .b .now) (at-if1 .if1 .left)))
-    (c .before .before .send-level2 .ensures)
+    (c .before .before .send-erosion2 .ensures)
 
 pub send-pair-spec : {M : Type 1} → statement M
 send-pair-spec =
     tie.close
     (tie.spec
-    send-level-requires
+    send-erosion-requires
     same-length
     returns
-    send-level-requires-2
+    send-erosion-requires-2
     same-length-2
     returns-2)

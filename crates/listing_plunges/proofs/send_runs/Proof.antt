@@ -10,7 +10,7 @@ use lib.ListN.{length}
 use Rattle.geometry.specs.Plate.{area}
 use Rattle.residue_marks.specs.Marks.{markPlaces}
 use Rattle.listing_pass.proofs.Passes.{Sending, sending-skip, sending-end}
-use Rattle.listing_plunges.specs.Rows.{placePlunge, levelPlunges}
+use Rattle.listing_plunges.specs.Rows.{placePlunge, reachPlunges}
 use Rattle.listing_plunges.proofs.Plunges.{sent-empty, sent-as, room-as}
 use Rattle.listing_plunges.proofs.Runs.{place-few, level-narrow, level-low, level-places, place-none, runs-room, sending-run-room, sending-run-fits, sending-run, sending-run-stops}
 use Rattle.listing_plunges.proofs.send_runs.Statement.{statement}
@@ -40,7 +40,7 @@ returns c =
     let at-start = c .before .before .before .before .before .before .before .before in
     let given = at-start .args in
     sent-empty (given .pass) (given .file .now) (given .at)
-    (levelPlunges (given .head) (given .prev .now) (given .cur .now) (given .reach .0)) (given .out .now)
+    (reachPlunges (given .head) (given .prev .now) (given .cur .now) (given .reach .0)) (given .out .now)
     (level-narrow (given .head) (given .prev .now) (given .cur .now) (given .reach .0) (given .reach .0)
     (at-start .pre .5) (at-start .pre .0) (omega arith))
 
@@ -55,7 +55,7 @@ returns-2 c =
     let at-start = c .before .before .before .before .before .before .before .before .before in
     let given = at-start .args in
     sent-empty (given .pass) (given .file .now) (given .at)
-    (levelPlunges (given .head) (given .prev .now) (given .cur .now) (given .reach .0)) (given .out .now)
+    (reachPlunges (given .head) (given .prev .now) (given .cur .now) (given .reach .0)) (given .out .now)
     (level-low (given .head) (given .prev .now) (given .cur .now) (given .reach .0) (given .reach .0) (at-start .pre .5)
     (at-start .pre .0) (omega arith))
 

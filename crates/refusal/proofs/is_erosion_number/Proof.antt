@@ -1,4 +1,4 @@
--- `is_rung` is `isRung`.
+-- `is_erosion_number` is `isErosionNumber`.
 use borrow.Author.Tests.{le-leb, lt-leb}
 use Rattle.refusal.proofs.is_erosion_number.Statement.{statement}
 use Rattle.refusal.proofs.is_erosion_number.Tie as tie

@@ -1,9 +1,9 @@
--- `send_level` finds the reach of the rung number: it is there for every number from 1 to 120, so the other arm is never taken.
+-- `send_erosion` finds the reach of the erosion number: it is there for every number up to the largest, so the other arm is never taken.
 use mathlib.Core.Path.{sym}
-use Rattle.listing_plunges.proofs.Plunges.{reach-is, reach-some, level-margin, level-plunges, sent-as, room-as}
+use Rattle.listing_plunges.proofs.Plunges.{reach-is, reach-some, reach-margin, reach-plunges, sent-as, room-as}
 use borrow.Author.Needs.{needs}
-use Rattle.listing_plunges.proofs.send_level.Statement.{statement}
-use Rattle.listing_plunges.proofs.send_level.Tie as tie
+use Rattle.listing_plunges.proofs.send_erosion.Statement.{statement}
+use Rattle.listing_plunges.proofs.send_erosion.Tie as tie
 
 cast-t11 : tie.Need-cast-t11
 cast-t11 c = search needs
@@ -24,12 +24,12 @@ send-reach-requires c κs =
       at-start .pre .4,
       at-start .pre .5,
       at-start .pre .6,
-      level-margin (given .head) (given .prev .now) (given .cur .now) (given .k) _
+      reach-margin (given .head) (given .prev .now) (given .cur .now) (given .k) _
           (reach-is (given .k) _ _ (at-start .pre .0) (at-start .pre .1) (at-of-clearance .of-clearance .ensures)
           (c .before .before .found .given .1)) (at-start .pre .7),
       at-start .pre .8,
       room-as (given .pass) (given .at) _ _ (given .out .now)
-          (level-plunges (given .head) (given .prev .now) (given .cur .now) (given .k) _
+          (reach-plunges (given .head) (given .prev .now) (given .cur .now) (given .k) _
           (reach-is (given .k) _ _ (at-start .pre .0) (at-start .pre .1) (at-of-clearance .of-clearance .ensures)
           (c .before .before .found .given .1))) (at-start .pre .9),
     )
@@ -48,7 +48,7 @@ returns c =
     let given = at-start .args in
     sent-as (given .pass) (given .file .now) (given .at) _ _ (given .out .now) _ _
     (sym
-    (level-plunges (given .head) (given .prev .now) (given .cur .now) (given .k) _
+    (reach-plunges (given .head) (given .prev .now) (given .cur .now) (given .k) _
     (reach-is (given .k) _ _ (at-start .pre .0) (at-start .pre .1) (at-of-clearance .of-clearance .ensures)
     (at-found .found .given .1)))) (c .before .before .send-reach .ensures)
 
@@ -59,8 +59,8 @@ returns-2 c =
     (reach-some (at-start .args .k) _ (at-start .pre .0) (at-start .pre .1) (c .before .before .of-clearance .ensures)
     (c .enum-told .given .1))
 
-pub send-level-spec : {M : Type 1} → statement M
-send-level-spec =
+pub send-erosion-spec : {M : Type 1} → statement M
+send-erosion-spec =
     tie.close
     (tie.spec
     cast-t11

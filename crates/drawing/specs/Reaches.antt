@@ -1,4 +1,4 @@
--- Serves proofs: drawing by levels, from the largest reach down: what the balls draw, each narrower by r, and what the plunges of reach r add at their centres.
+-- Serves proofs: drawing reach by reach, from the largest down: what the balls draw, each narrower by r, and what the plunges of reach r add at their centres.
 use mathlib.Core.Bool.{Bool, false, cond}
 use mathlib.Core.List.{List, map}
 use Prim.Native.Nat.{ℕ, _+_}

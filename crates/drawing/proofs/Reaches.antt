@@ -1,4 +1,4 @@
--- Laws of drawing by levels: level 0 is the drawing, each level is the next one dilated by one with its own plunges placed, and near the border it is 0.
+-- Laws of drawing reach by reach: reach 0 has the drawing, each reach has the next one's map dilated by one with its own plunges placed, and near the border it is 0.
 use mathlib.Core.Path.{_≡_, refl, ap, fun-ext}
 use mathlib.Core.Bool.{Bool, true, false, cond}
 use mathlib.Core.List.{List, map, List·Memᴰ}
@@ -23,7 +23,7 @@ use Rattle.theory.proofs.Balls.{col-near, row-near}
 use Rattle.theory.proofs.Erosion.{le-highestNear, highestNear-met}
 use Rattle.theory.proofs.Plunges.{fitsPlate-iff}
 use Rattle.theory.proofs.Plate.{at-tabulated}
-use Rattle.drawing.specs.Levels.{deepest, drawnFrom, centredDepth}
+use Rattle.drawing.specs.Reaches.{deepest, drawnFrom, centredDepth}
 
 -- ---- the highest depth of some plunges
 
@@ -62,7 +62,7 @@ pub here-placed : (kd : Kind) (r : ℕ) (q : Plunge) (c : Cell) → cond (eqb (q
     → (q .reach .0 ≡ r) × (dist kd (centre q) c ≡ 0)
 here-placed kd r q c e = let t = both (eqb (q .reach .0) r) (eqb (dist kd (centre q) c) 0) e in (eqb-true _ _ (t .0), eqb-true _ _ (t .1))
 
--- ---- levels
+-- ---- reach by reach
 
 -- of the balls as they are, the drawing
 pub drawn-from-zero : (kd : Kind) (qs : List Plunge) (c : Cell) → drawnFrom kd 0 qs c ≡ drawn kd qs c

@@ -1,14 +1,14 @@
--- `draw_levels` makes each level from the one above: the invariant is that the map is drawn by the balls, each narrower by the reach that has been placed last.
+-- `draw_reaches` makes the map of each reach from that of the reach above: the invariant is that the map is drawn by the balls, each narrower by the reach that has been placed last.
 use mathlib.Core.Path.{_∙_}
 use Prim.Native.Nat.{_≤_}
 use native.Mathlib.Omega.{arith}
 use Rattle.buffers.specs.Fill.{Mapped}
 use Rattle.window_filter.proofs.InPlace.{highest-filtered}
 use Rattle.reading.specs.Reading.{plungesUpTo}
-use Rattle.drawing.specs.Levels.{drawnFrom}
-use Rattle.drawing.proofs.Files.{mapped-on, mapped-self, level-first, level-margin, level-next, level-last}
-use Rattle.drawing.proofs.draw_levels.Statement.{statement}
-use Rattle.drawing.proofs.draw_levels.Tie as tie
+use Rattle.drawing.specs.Reaches.{drawnFrom}
+use Rattle.drawing.proofs.Files.{mapped-on, mapped-self, level-first, reach-margin, level-next, level-last}
+use Rattle.drawing.proofs.draw_reaches.Statement.{statement}
+use Rattle.drawing.proofs.draw_reaches.Tie as tie
 
 abbrev Inv-loop : tie.InvT-loop
 Inv-loop head file count first last top map₀ reach₀ map reach = (reach ≤ top) × Mapped head (drawnFrom (head .kind) reach (plungesUpTo count file)) map₀ map
@@ -53,7 +53,7 @@ filter-map-requires c κs =
       s .pre .0,
       omega (arith, s .pre .2, at-place-range .place-range .ensures .same, v .1 .same),
       omega (arith, v .0, s .pre .3 .small),
-      λ h. level-margin (s .args .head) (s .args .count) _ (s .pre .0) (s .pre .1) _ _ (omega (arith, c .before .loop-test .taken)) _ _ (v .1),
+      λ h. reach-margin (s .args .head) (s .args .count) _ (s .pre .0) (s .pre .1) _ _ (omega (arith, c .before .loop-test .taken)) _ _ (v .1),
     )
 
 mul-place-range-3 : tie.Need-mul-place-range-3 Inv-loop μ-loop
@@ -132,8 +132,8 @@ returns c =
     (level-first (s .args .head) (s .args .count) _ (s .pre .0) (s .pre .1) _ _ (s .args .top) (s .pre .3) _ _
     (s .pre .4) (at-place-range .place-range .ensures)) (v .1))
 
-pub draw-levels-spec : {M : Type 1} → statement M
-draw-levels-spec =
+pub draw-reaches-spec : {M : Type 1} → statement M
+draw-reaches-spec =
     tie.close
     (tie.spec
     Inv-loop
