@@ -11,6 +11,7 @@ import os
 import random
 import statistics
 import sys
+import textwrap
 import time
 
 HERE = os.path.dirname(os.path.abspath(__file__))
@@ -320,6 +321,13 @@ def picture(results, path):
     figure.savefig(path, dpi=110)
 
 
+def wrapped(line):
+    """Prose in lines of 120 columns; tables as they are."""
+    if line.startswith("|") or len(line) <= 120:
+        return [line]
+    return textwrap.wrap(line, 120, subsequent_indent="  " if line.startswith("- ") else "")
+
+
 def write(results, sides, thin, short, asked, head):
     lines = ["# Benchmark", "",
              "Written by `bench/run`. The library, as the proved archive gives it, beside OpenCV and SciPy making the same bytes on the same",
@@ -345,7 +353,7 @@ def write(results, sides, thin, short, asked, head):
         lines += table(results, call)
     lines += side_table(sides)
     with open(os.path.join(asked.out, "RESULTS.md"), "w") as out:
-        out.write("\n".join(lines).rstrip() + "\n")
+        out.write("\n".join(part for line in lines for part in wrapped(line)).rstrip() + "\n")
     picture(results, os.path.join(asked.out, "results.png"))
 
 

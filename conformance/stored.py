@@ -1,6 +1,6 @@
-"""The stored output of the gate's program crates/blocks, made by SciPy.
+"""The stored output of the gate's program crates/test_blocks, made by SciPy.
 
-    /usr/bin/python3 conformance/stored.py           writes crates/blocks/stdout
+    /usr/bin/python3 conformance/stored.py           writes crates/test_blocks/stdout
     /usr/bin/python3 conformance/stored.py --check   only compares: ends with 1 if it differs
 
 The blocks are those of document 01 that are not marked M, and the worked example of `plunges`. Lists are SciPy's (peers.py), files are
@@ -14,7 +14,7 @@ import numpy as np
 import files
 import peers
 
-STORED = os.path.join(os.path.dirname(os.path.abspath(__file__)), "..", "crates", "blocks", "stdout")
+STORED = os.path.join(os.path.dirname(os.path.abspath(__file__)), "..", "crates", "test_blocks", "stdout")
 # Sizes that the program chose: of its long output, of its output where sides are refused, and of the longest file that it prints as text.
 LONG, CELLS, AS_TEXT = 204000, 57840, 16384
 # Document 01's worked example: what comes in, what is printed, the file.
@@ -111,8 +111,8 @@ def main():
         with open(STORED, "wb") as out:
             out.write(made)
     elif not os.path.exists(STORED) or open(STORED, "rb").read() != made:
-        sys.exit("crates/blocks/stdout is not what SciPy gives")
-    print(f"crates/blocks/stdout: {len(made.splitlines())} lines by SciPy")
+        sys.exit("crates/test_blocks/stdout is not what SciPy gives")
+    print(f"crates/test_blocks/stdout: {len(made.splitlines())} lines by SciPy")
 
 
 if __name__ == "__main__":

@@ -2,6 +2,7 @@
 
     /usr/bin/python3 conformance/tool.py             the run; 300 scans unless --scans N
     /usr/bin/python3 conformance/tool.py --store     writes the program's stored run, crates/jobtool/{args,stdout,data/coin.job}
+    /usr/bin/python3 conformance/tool.py --check     only compares that stored run, and runs no program: ends with 1 if it differs
 
 Lists and drawings are SciPy's, the reader is files.py, motions are exact fractions, numbers as text are Python's own.
 """
@@ -253,11 +254,16 @@ def main():
     parser.add_argument("--scans", type=int, default=300)
     parser.add_argument("--seed", type=int, default=1)
     parser.add_argument("--store", action="store_true")
+    parser.add_argument("--check", action="store_true")
     given = parser.parse_args()
     if given.store:
         for name, data in store().items():
             put(CRATE, name, data)
         return
+    if given.check:
+        differing = [name for name, data in store().items() if get(CRATE, name) != data]
+        print(f"jobtool: stored run by SciPy and exact fractions, differing: {', '.join(differing) or 'nothing'}")
+        sys.exit(bool(differing))
     with tempfile.TemporaryDirectory() as folder:
         run = Run(folder)
         for name, data in store().items():

@@ -29,7 +29,7 @@
  *   13  a scale number is outside its range or not a number
  *   14  the plunge number is not below the total
  *
- * Link with libcapi.a, which `rt staticlib capi` writes to target/staticlib.
+ * Link with libharuseopda.a, which `rt staticlib haruseopda` writes to target/staticlib.
  */
 #ifndef HARUSEOPDA_H
 #define HARUSEOPDA_H

@@ -75,7 +75,9 @@ put-plunges-requires c κs =
             first = omega (arith, at-start .pre .first, at-send-listing .send-listing .ensures .1 .same);
             second = omega (arith, at-start .pre .second, at-send-listing .send-listing .ensures .2 .same);
           };
-      stage = let at-send-listing = c .before .before .before .before .before .before .before .before .before .before .before .before .before .before in omega (arith, at-send-listing .send-listing .ensures .0 .bytes .0);
+      stage =
+          let at-send-listing = c .before .before .before .before .before .before .before .before .before .before .before .before .before .before in
+          omega (arith, at-send-listing .send-listing .ensures .0 .bytes .0);
       counted =
           let at-send-listing = c .before .before .before .before .before .before .before .before .before .before .before .before .before .before in
           let given = at-send-listing .before .before .before .before .before .before .before .before .args in
