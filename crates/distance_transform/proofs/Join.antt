@@ -1,4 +1,4 @@
--- Laws of the passes: a row spread along itself, and the step from the row beside, which is one nearer to every cell beyond it.
+-- Laws of the passes: a row propagated along itself, and the step from the row beside, which is one nearer to every cell beyond it.
 use mathlib.Core.Path.{_≡_, refl, sym, ap, _∙_, subst}
 use mathlib.Core.Logic.{_⊎_, inl, inr}
 use mathlib.Core.List.{List}
@@ -135,7 +135,7 @@ module _ (w : ℕ) (beside : List ℕ) (m : Margins w beside) (x y z : ℕ) (lef
 
 module _ (kd : Kind) (w : ℕ) (Own Beside Both : ℕ → Type 0) (q : ℕ → ℕ → ℕ) (y z : ℕ) (joins : Joins Own Beside Both y z)
     (row beside : List ℕ) (own : RowPropagated kd w Own q y row) (next : RowPropagated kd w Beside q z beside) where
-  -- the highest of a row's own numbers and the row beside's, less 1, spreads over both
+  -- the highest of a row's own numbers and the row beside's, less 1, is propagated over both
   propagated-join : (x : ℕ) → x < w → (v : ℕ) → v ≡ joinedRow kd beside row (margin + x) → Propagated kd w Both q x y v
   propagated-join x h v e = record { bound = λ a b g c. bound a b g (joins .split b c); met = met (decLe v (getD row (margin + x) 0)) }
     where

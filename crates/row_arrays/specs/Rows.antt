@@ -1,4 +1,4 @@
--- A row of cells held in an array, column x at place margin + x, and what the passes along it and from the row beside leave.
+-- Serves proofs: a row of cells held in an array, column x at place margin + x, and what the passes along it and from the row beside leave.
 use mathlib.Core.Path.{_≡_}
 use mathlib.Core.Logic.{_⊎_}
 use mathlib.Core.List.{List}

@@ -1,4 +1,5 @@
--- The numbers that a plate's rows start from, before they spread: seeds of a map, and what the cells off the plate bring to its border.
+-- Serves proofs: the numbers that a plate's rows start from, before they propagate: seeds of a map, and what the cells off the plate bring
+-- to its border.
 use mathlib.Core.Bool.{Bool, true, cond}
 use mathlib.Core.List.{List}
 use Prim.Native.Nat.{ℕ, _+_, _-_, max}

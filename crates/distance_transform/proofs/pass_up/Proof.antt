@@ -3,7 +3,7 @@ use mathlib.Core.Path.{refl}
 use Prim.Native.Nat.{_-_}
 use native.Mathlib.Omega.{arith}
 use borrow.Author.Needs.{needs}
-use Rattle.row_arrays.proofs.Start.{row-end}
+use Rattle.buffers.proofs.Rooms.{row-room}
 use Rattle.distance_transform.proofs.Passes.{UpTo, up-none, up-more, up-all}
 use Rattle.distance_transform.proofs.pass_up.Statement.{statement}
 use Rattle.distance_transform.proofs.pass_up.Tie as tie
@@ -28,18 +28,13 @@ mul-load-run c =
     let s = c .before .before .before .before in
     omega (
       arith,
-      s .pre,
-      row-end (s .args .head .width) (s .args .head .height - 1) (s .args .head .height) (omega (arith, s .pre .0 .tall)),
+      row-room (s .args .head .width) (s .args .head .height - 1) (s .args .head .height) _ (omega (arith, s .pre .0 .tall)) (s .pre .1),
     )
 
 load-run-requires : tie.Need-load-run-requires Inv-loop μ-loop
 load-run-requires c κs =
     let s = c .before .before .before .before .before in (
-      omega (
-        arith,
-        s .pre,
-        row-end (s .args .head .width) (s .args .head .height - 1) (s .args .head .height) (omega (arith, s .pre .0 .tall)),
-      ),
+      row-room (s .args .head .width) (s .args .head .height - 1) (s .args .head .height) _ (omega (arith, s .pre .0 .tall)) (s .pre .1),
       s .pre .0 .narrow,
       refl,
     )
@@ -58,7 +53,13 @@ row-up-requires c κs =
     let at-start = at-loop .before .before .before .before .before .before .before in
     let d = at-loop .loop .inv in
     let g = at-start .pre in
-    (g .0, omega (arith, g .1, d .kept .same), omega (arith, d .within), d .row-margins, d .below-margins)
+    record {
+      sides = g .0;
+      room = omega (arith, g .1, d .kept .same);
+      here = omega (arith, d .within);
+      row-margins = d .row-margins;
+      below-margins = d .below-margins;
+    }
 
 loop-less : tie.Need-loop-less Inv-loop μ-loop
 loop-less c =

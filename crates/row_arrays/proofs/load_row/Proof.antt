@@ -3,7 +3,8 @@ use mathlib.Core.Path.{ap, _∙_}
 use Prim.Native.Nat.{_-_}
 use native.Mathlib.Omega.{arith}
 use borrow.Author.Needs.{needs}
-use Rattle.row_arrays.proofs.Start.{row-end, loaded}
+use Rattle.buffers.proofs.Rooms.{row-room}
+use Rattle.row_arrays.proofs.Start.{loaded}
 use Rattle.row_arrays.proofs.load_row.Statement.{statement}
 use Rattle.row_arrays.proofs.load_row.Tie as tie
 
@@ -26,15 +27,15 @@ mul-load-run : tie.Need-mul-load-run
 mul-load-run c =
     let at-start = c .before .before .before .before .before .before in
     let a = at-start .args in
-    omega (arith, at-start .pre, row-end (a .head .width) (a .y) (a .head .height) (at-start .pre .2))
+    omega (arith, row-room (a .head .width) (a .y) (a .head .height) _ (at-start .pre .here) (at-start .pre .long))
 
 load-run-requires : tie.Need-load-run-requires
 load-run-requires c κs =
     let at-start = c .before .before .before .before .before .before .before in
     let a = at-start .args in (
-      omega (arith, at-start .pre, row-end (a .head .width) (a .y) (a .head .height) (at-start .pre .2)),
-      at-start .pre .0 .narrow,
-      at-start .pre .3 .size,
+      row-room (a .head .width) (a .y) (a .head .height) _ (at-start .pre .here) (at-start .pre .long),
+      at-start .pre .sides .narrow,
+      at-start .pre .margins .size,
     )
 
 element-copy-out-higher : tie.Need-element-copy-out-higher
@@ -74,8 +75,8 @@ returns c =
     let at-less = at-floor-of .before .before in
     let at-seed-of = at-less .before in
     let s = at-seed-of .before .before .before in
-    loaded (s .args .head) (s .args .seeds) (s .args .map .now) (s .args .y) (s .pre .0) (s .pre .2) _
-    (at-less .less .ensures ∙ ap (λ v. v - 1) (at-seed-of .seed-of .ensures)) _ _ _ _ _ (s .pre .3)
+    loaded (s .args .head) (s .args .seeds) (s .args .map .now) (s .args .y) (s .pre .sides) (s .pre .here) _
+    (at-less .less .ensures ∙ ap (λ v. v - 1) (at-seed-of .seed-of .ensures)) _ _ _ _ _ (s .pre .margins)
     (at-floor-of .floor-of .ensures) (at-load-run .load-run .ensures) (c .before .before .higher .ensures)
     (c .higher2 .ensures)
 
