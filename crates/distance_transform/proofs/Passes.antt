@@ -12,7 +12,7 @@ use Rattle.buffers.specs.Fill.{Filled, PlateOnly}
 use Rattle.buffers.proofs.Fill.{row-under}
 use Rattle.refusal.specs.Refusals.{largestSide}
 use Rattle.row_arrays.specs.declared.Seeds.the-variants.{Numbers}
-use Rattle.row_arrays.specs.Rows.{margin, Margins, Row, Widened, joinedRow, Merged}
+use Rattle.row_arrays.specs.Rows.{margin, rowReach, Margins, Row, Widened, joinedRow, Merged}
 use Rattle.row_arrays.specs.Start.{seed}
 use Rattle.distance_transform.specs.Transform.{Propagated, RowPropagated, MapPropagated, RowOnly, RowDown, RowUp, Lowered, Down, Up}
 use Rattle.row_arrays.proofs.Rows.{zeros, row-zeros, margins-filled, line-start, loaded-at}
@@ -36,7 +36,7 @@ module _ (p : Head) where
   w = p .width
 
   pub row-down : (q : ℕ → ℕ → ℕ) (y : ℕ) (row₁ row₂ row₃ spare above above′ out out′ : List ℕ) → w ≤ largestSide → Row (λ x. q x y) w row₁
-      → Widened w 1 256 row₁ row₂ spare → RowPropagated (p .kind) w (λ b. b < y) q (y - 1) above
+      → Widened w 1 rowReach row₁ row₂ spare → RowPropagated (p .kind) w (λ b. b < y) q (y - 1) above
       → Merged (p .kind) w (y * w) above above′ row₂ row₃ out out′ → RowDown p q y row₃ spare above′ out out′
   row-down q y row₁ row₂ row₃ spare above above′ out out′ small r l a h =
       record {

@@ -16,6 +16,7 @@ use Rattle.buffers.specs.Fill.{PlateOnly}
 use Rattle.row_arrays.specs.declared.Seeds.{Seeds}
 use Rattle.row_arrays.specs.declared.Seeds.the-variants.{Walls, Numbers}
 use Rattle.row_arrays.specs.Rows.{margin, Margins}
+use Rattle.row_arrays.specs.Start.{wallSeed}
 use Rattle.refusal.specs.Sides.{Sides}
 
 -- a plate of fitting sides, and buffers that hold its map and have room for one
@@ -97,7 +98,7 @@ pub record Up (p : Head) (out out′ : List ℕ) : Type 0 where
 
 -- what a cell's number says at the end: its distance to the nearest wall, or whether some ball reaches it
 abbrev pub finish : Seeds → ℕ → ℕ
-finish (Walls t) v = 255 - v
+finish (Walls t) v = wallSeed - v
 finish Numbers v = cond (ltb 0 v) 1 0
 
 -- walls are those of a level, and a level is 1 or more

@@ -91,7 +91,7 @@ fn finish_of(seeds: Seeds, v: u8) -> u8
     ensures { λ r. ⌜ r ≡ finish seeds v ⌝ }
 {
     match seeds {
-        Seeds::Walls(_level) => 255 - v,
+        Seeds::Walls(_level) => row_arrays::WALL - v,
         Seeds::Numbers => if 0 < v { 1 } else { 0 },
     }
 }

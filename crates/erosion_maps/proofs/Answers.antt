@@ -19,10 +19,10 @@ use Rattle.buffers.proofs.Fill.{mapped-bytes, surplus-drop}
 use Rattle.refusal.specs.declared.Refusal.{Refusal}
 use Rattle.refusal.specs.declared.Verdict.{Verdict}
 use Rattle.refusal.specs.declared.Verdict.the-variants.{Accepted, Refused}
-use Rattle.refusal.specs.Refusals.{firstMet, mapTrials, headOf, written, free, Worked}
+use Rattle.refusal.specs.Refusals.{firstMet, mapTrials, headOf, written, free, Worked, largestSide}
 use Rattle.refusal.proofs.Refusals.{same-verdict, shortest-two, map-sound, Sound, answered-refused}
 use Rattle.erosion_series.specs.Pairs.{MapBuffers, MapFilled}
-use Rattle.erosion_maps.specs.Maps.{askedMap, fourVerdict}
+use Rattle.erosion_maps.specs.Maps.{largestArea, askedMap, fourVerdict}
 use Rattle.erosion_maps.specs.declared.Asked.{Asked}
 use Rattle.erosion_maps.specs.Calls.{Left}
 
@@ -118,9 +118,9 @@ pub sum-bound : (m : List ℕ) (n : ℕ) → ((i : ℕ) → getD m i 0 < 256) �
 sum-bound m zero b h = omega arith
 sum-bound m (suc n) b h = omega (arith, ap (λ (j : ℕ). sum (take j m)) (sym (add-one n)) ∙ sum-more m n h, sum-bound m n b (omega arith), b n)
 
--- a plate of sides that were not refused has at most 65,536 cells
-pub area-small : (w h : ℕ) → w ≤ 240 → h ≤ 240 → h * w ≤ 65536
-area-small w h a b = omega (arith, mul-le-mul b a)
+-- a plate of sides that were not refused has no more cells than the largest
+pub area-small : (w h : ℕ) → w ≤ largestSide → h ≤ largestSide → h * w ≤ largestArea
+area-small w h a b = mul-le-mul b a
 
 -- the volume, whatever kind is named
 pub volume-sum : (w h : ℕ) (m : List ℕ) → h * w ≤ length m → sum (take (h * w) m) ≡ volume (headOf 4 w h) m

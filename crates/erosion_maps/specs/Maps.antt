@@ -8,11 +8,15 @@ use Rattle.geometry.specs.Plane.{Cell}
 use Rattle.geometry.specs.Plate.{tabulated}
 use Rattle.theory.specs.Erosion.{erosion, residue}
 use Rattle.refusal.specs.declared.Verdict.{Verdict}
-use Rattle.refusal.specs.Refusals.{firstMet, mapTrials, headOf, isErosionNumber, largestErosion}
+use Rattle.refusal.specs.Refusals.{firstMet, mapTrials, headOf, isErosionNumber, largestErosion, largestSide}
 use Rattle.residue_scores.specs.Scores.{scoreOf}
 use Rattle.erosion_maps.specs.declared.Asked.{Asked}
 use Rattle.erosion_maps.specs.declared.Asked.the-variants as v
 use Rattle.erosion_maps.specs.Calls.{Left}
+
+-- the cells of the largest plate
+abbrev pub largestArea : ℕ
+largestArea = largestSide * largestSide
 
 -- whether the map has a number that no erosion has
 abbrev pub wrongNumber : Asked → Bool

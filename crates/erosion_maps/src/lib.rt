@@ -9,7 +9,7 @@ ghost use Prim.Native.Nat.{_≤_, min};
 ghost use lib.ListN.{length, take};
 ghost use Rattle.geometry.specs.Lists.{sum};
 ghost use Rattle.erosion_series.specs.Pairs.{MapBuffers, MapFilled};
-ghost use Rattle.erosion_maps.specs.Maps.{wrongNumber, askedMap, AskedMap};
+ghost use Rattle.erosion_maps.specs.Maps.{largestArea, wrongNumber, askedMap, AskedMap};
 ghost use Rattle.erosion_maps.specs.Calls.{ErosionMap, ResidueMap, ScoreMap, volumeOf};
 
 // The volume, or the first refusal met.
@@ -172,7 +172,7 @@ fn wide(depth: u8) -> u32
 
 // The sum of the first bytes of a relief.
 fn depth_sum(relief: &[u8], count: usize) -> u32
-    requires { ⌜ (count ≤ length (now relief)) × (count ≤ 65536) ⌝ }
+    requires { ⌜ (count ≤ length (now relief)) × (count ≤ largestArea) ⌝ }
     ensures { λ r. ⌜ r ≡ sum (take count (now (relief .entry))) ⌝ }
 {
     let mut total: u32 = 0;

@@ -6,14 +6,14 @@ use Rattle.geometry.specs.declared.Kind.{Kind}
 use Rattle.geometry.specs.declared.Head.{Head}
 use Rattle.geometry.specs.Plate.{area, at}
 use Rattle.window.specs.Windows.{windowMin}
-use Rattle.window.specs.Places.{windowIn}
+use Rattle.window.specs.Places.{largestWord, windowIn}
 use Rattle.theory.specs.Near.{lowestNear}
 use Rattle.buffers.specs.Fill.{Filled, Mapped}
 use Rattle.buffers.specs.Margin.{Margin}
 
--- erosions are numbered by a u16: twice such a number is a length
+-- erosions are numbered by 16 bits: twice such a number is a length
 abbrev pub stepNumbers : ℕ
-stepNumbers = 65536
+stepNumbers = largestWord + 1
 
 -- what the step from erosion k asks: a source that is 0 within k of the border, a target that is 0 within k - 1 of it
 pub record StepBuffers (p : Head) (k : ℕ) (src dst : List ℕ) : Type 0 where

@@ -17,6 +17,10 @@ rowPlaces = 512
 abbrev pub margin : ℕ
 margin = 128
 
+-- what the steps along a row reach: the columns that are less than this apart
+abbrev pub rowReach : ℕ
+rowReach = 256
+
 -- 0 at all places but those of w columns
 pub record Margins (w : ℕ) (row : List ℕ) : Type 0 where
   pub size : length row ≡ rowPlaces

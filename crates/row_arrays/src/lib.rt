@@ -8,15 +8,18 @@ ghost use lib.Dec.{eqb};
 ghost use lib.ListN.{length, getD};
 ghost use Rattle.buffers.specs.Fill.{Filled};
 ghost use Rattle.refusal.specs.Refusals.{largestSide};
-ghost use Rattle.row_arrays.specs.Rows.{margin, rowPlaces, Row, propagatedAt, Widened, highestBeside, joinedRow, Merged};
+ghost use Rattle.row_arrays.specs.Rows.{margin, rowPlaces, rowReach, Row, propagatedAt, Widened, highestBeside, joinedRow, Merged};
 ghost use Rattle.row_arrays.specs.Start.{seed, start};
 ghost use Rattle.row_arrays.specs.Asked.{Loadable, RowPair, Mergeable};
 
-// What the transform starts from: 255 at every cell below a level, those off the plate too, or a map's own numbers.
+// What the transform starts from: a wall at every cell below a level, those off the plate too, or a map's own numbers.
 pub enum Seeds {
     Walls(u8),
     Numbers,
 }
+
+// The number of a wall, from which distances are taken off.
+pub const WALL: u8 = 255;
 
 // A row of cells is held in an array: column x at place MARGIN + x, zeros at all other places.
 pub const MARGIN: usize = 128;
@@ -27,7 +30,7 @@ fn seed_of(seeds: Seeds, n: u8) -> u8
     ensures { λ r. ⌜ r ≡ seed seeds n ⌝ }
 {
     match seeds {
-        Seeds::Walls(level) => if n < level { 255 } else { 0 },
+        Seeds::Walls(level) => if n < level { WALL } else { 0 },
         Seeds::Numbers => n,
     }
 }
@@ -109,7 +112,7 @@ fn propagate_twice(
     step: usize,
     width: usize,
 )
-    requires { ⌜ (step ≤ 64) × RowPair width (now row) (now spare) ⌝ }
+    requires { ⌜ (2 * step ≤ margin) × RowPair width (now row) (now spare) ⌝ }
     ensures { λ _. ⌜ Widened width step (4 * step) (now (row .entry)) (now (row .exit)) (now (spare .exit)) ⌝ }
 {
     propagate_step(row, spare, step, width);
@@ -119,7 +122,7 @@ fn propagate_twice(
 // Along a row: the highest number less the distance, after steps 1, 2, 4 up to 128.
 pub fn propagate_row(row: &mut [u8; ROW_PLACES], spare: &mut [u8; ROW_PLACES], width: usize)
     requires { ⌜ RowPair width (now row) (now spare) ⌝ }
-    ensures { λ _. ⌜ Widened width 1 256 (now (row .entry)) (now (row .exit)) (now (spare .exit)) ⌝ }
+    ensures { λ _. ⌜ Widened width 1 rowReach (now (row .entry)) (now (row .exit)) (now (spare .exit)) ⌝ }
 {
     propagate_twice(row, spare, 1, width);
     propagate_twice(row, spare, 4, width);

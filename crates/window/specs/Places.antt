@@ -15,6 +15,10 @@ windowIn m w n =
     ∷ (getD m (n + w - 1) 0 ∷ getD m (n + w) 0 ∷ getD m (n + w + 1) 0 ∷ [])
     ∷ []
 
+-- the largest number of 16 bits, as a column and a row are
+abbrev pub largestWord : ℕ
+largestWord = 65535
+
 -- the cell at column i - 1 and row j - 1: a window's cells counted without negative numbers
 abbrev pub before : ℕ → ℕ → Cell
 before i j = record { col = predℤ (pos i); row = predℤ (pos j) }

@@ -9,7 +9,7 @@ ghost use lib.ListN.{length, getD};
 ghost use Rattle.geometry.specs.Plane.{cell};
 ghost use Rattle.geometry.specs.Plate.{at};
 ghost use Rattle.window.specs.Windows.{windowOf, windowMin, windowMax};
-ghost use Rattle.window.specs.Places.{before, windowIn, Inner, crossOf, cornersOf};
+ghost use Rattle.window.specs.Places.{largestWord, before, windowIn, Inner, crossOf, cornersOf};
 
 pub fn lower(a: u8, b: u8) -> u8
     ensures { λ r. ⌜ r ≡ min a b ⌝ }
@@ -86,7 +86,7 @@ pub fn window_max(kind: Kind, win: [[u8; 3]; 3]) -> u8
 
 // A map's number at column i - 1 and row j - 1, 0 off the plate and past the end of the buffer.
 fn at_before(head: Head, map: &[u8], i: usize, j: usize) -> u8
-    requires { ⌜ (i ≤ 65537) × (j ≤ 65537) ⌝ }
+    requires { ⌜ (i ≤ largestWord + 2) × (j ≤ largestWord + 2) ⌝ }
     ensures { λ r. ⌜ r ≡ at head (now (map .entry)) (before i j) ⌝ }
 {
     let width = head.width as usize;
@@ -114,7 +114,7 @@ fn at_before(head: Head, map: &[u8], i: usize, j: usize) -> u8
 
 // Three numbers of a map side by side: columns i - 1, i and i + 1 of row j - 1, 0 off the plate.
 fn row_before(head: Head, map: &[u8], i: usize, j: usize) -> [u8; 3]
-    requires { ⌜ (i ≤ 65535) × (j ≤ 65537) ⌝ }
+    requires { ⌜ (i ≤ largestWord) × (j ≤ largestWord + 2) ⌝ }
     ensures { λ r. ⌜ r ≡ at head (now (map .entry)) (before i j) ∷ at head (now (map .entry)) (before (i + 1) j)
         ∷ at head (now (map .entry)) (before (i + 2) j) ∷ [] ⌝ }
 {
