@@ -161,5 +161,5 @@ row-parts p prev cur row old first second new r s t i f g h =
     let w = i .wide in
     marked-on (markAt p prev cur row) 0 (p .width - 1) (p .width) old second new (r + s) t (omega arith) (omega arith)
     (marked-on (markAt p prev cur row) 0 1 (p .width - 1) old first second r s (omega arith) (omega arith) f
-    (marked-as _ (markAt p prev cur row) 1 (p .width - 1) first second s (omega arith) g (λ x c d. near-inside p prev cur x row c (omega arith) (i .first) (i .last))))
-    h
+    (marked-as _ (markAt p prev cur row) 1 (p .width - 1) first second s (omega arith) g
+    (λ x c d. near-inside p prev cur x row c (omega arith) (i .first) (i .last)))) h

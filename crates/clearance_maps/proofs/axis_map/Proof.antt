@@ -11,8 +11,9 @@ use Rattle.clearance_maps.proofs.axis_map.Statement.{statement}
 use Rattle.clearance_maps.proofs.axis_map.Tie as tie
 
 -- an accepted call of `clearance_map` wrote the clearances
-mapped : (c : tie.After-head-of) → let at-clearance-map = c .before .before .before .before .before in let given =
-    at-clearance-map .before .before .before .before .args in
+mapped : (c : tie.After-head-of) → let at-clearance-map = c .before .before .before .before .before in
+    let at-start = at-clearance-map .before .before .before .before in
+    let given = at-start .args in
     Mapped (c .head-of .result) (clearance (c .head-of .result) (given .relief .now) (given .level)) (given .out .now)
     (at-clearance-map .clearance-map .last .1 .1 .1 .1 .1 .0)
 mapped c =

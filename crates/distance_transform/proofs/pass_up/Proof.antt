@@ -1,6 +1,7 @@
 -- `pass_up` does so for every row, from the last on: the invariant is `UpTo` the row reached.
 use mathlib.Core.Path.{refl}
-use Prim.Native.Nat.{_-_}
+use Prim.Native.Nat.{_+_, _-_, _*_, _≤_}
+use lib.ListN.{length}
 use native.Mathlib.Omega.{arith}
 use borrow.Author.Needs.{needs}
 use Rattle.buffers.proofs.Rooms.{row-room}
@@ -14,6 +15,12 @@ Inv-loop head out₀ row₀ below₀ width y₀ out row below y = UpTo head y ou
 abbrev μ-loop : tie.MeasureT-loop
 μ-loop head out₀ row₀ below₀ width y₀ out row below y = y
 
+-- the last row lies in the map
+last-row : (s : tie.Start Inv-loop μ-loop)
+    → (s .args .head .height - 1) * s .args .head .width + s .args .head .width ≤ length (s .args .out .now)
+last-row s =
+    row-room (s .args .head .width) (s .args .head .height - 1) (s .args .head .height) _ (omega (arith, s .pre .0 .tall)) (s .pre .1)
+
 cast-width : tie.Need-cast-width Inv-loop μ-loop
 cast-width c = search needs
 
@@ -26,15 +33,12 @@ sub-y c = let at-start = c .before .before .before in at-start .pre .0 .tall
 mul-load-run : tie.Need-mul-load-run Inv-loop μ-loop
 mul-load-run c =
     let s = c .before .before .before .before in
-    omega (
-      arith,
-      row-room (s .args .head .width) (s .args .head .height - 1) (s .args .head .height) _ (omega (arith, s .pre .0 .tall)) (s .pre .1),
-    )
+    omega (arith, last-row s)
 
 load-run-requires : tie.Need-load-run-requires Inv-loop μ-loop
 load-run-requires c κs =
     let s = c .before .before .before .before .before in (
-      row-room (s .args .head .width) (s .args .head .height - 1) (s .args .head .height) _ (omega (arith, s .pre .0 .tall)) (s .pre .1),
+      last-row s,
       s .pre .0 .narrow,
       refl,
     )

@@ -1,11 +1,17 @@
 -- `row_up` propagates a row over all rows, from the row below.
 use mathlib.Core.Path.{_∙_}
+use Prim.Native.Nat.{_+_, _*_, _≤_}
 use native.Mathlib.Omega.{arith}
+use lib.ListN.{length}
 use borrow.Author.Needs.{needs}
 use Rattle.buffers.proofs.Rooms.{row-room}
 use Rattle.distance_transform.proofs.Passes.{row-up}
 use Rattle.distance_transform.proofs.row_up.Statement.{statement}
 use Rattle.distance_transform.proofs.row_up.Tie as tie
+
+-- the row lies in the map
+row-within : (s : tie.Start) → s .args .y * s .args .head .width + s .args .head .width ≤ length (s .args .out .now)
+row-within s = row-room (s .args .head .width) (s .args .y) (s .args .head .height) _ (s .pre .here) (s .pre .room)
 
 cast-width : tie.Need-cast-width
 cast-width c = search needs
@@ -13,12 +19,12 @@ cast-width c = search needs
 mul-load-run : tie.Need-mul-load-run
 mul-load-run c =
     let s = c .before .before .before in
-    omega (arith, row-room (s .args .head .width) (s .args .y) (s .args .head .height) _ (s .pre .here) (s .pre .room))
+    omega (arith, row-within s)
 
 load-run-requires : tie.Need-load-run-requires
 load-run-requires c κs =
     let s = c .before .before .before .before in (
-      row-room (s .args .head .width) (s .args .y) (s .args .head .height) _ (s .pre .here) (s .pre .room),
+      row-within s,
       s .pre .sides .narrow,
       s .pre .row-margins .size,
     )
@@ -26,14 +32,14 @@ load-run-requires c κs =
 mul-merge-row : tie.Need-mul-merge-row
 mul-merge-row c =
     let s = c .before .before .before .before .before in
-    omega (arith, row-room (s .args .head .width) (s .args .y) (s .args .head .height) _ (s .pre .here) (s .pre .room))
+    omega (arith, row-within s)
 
 merge-row-requires : tie.Need-merge-row-requires
 merge-row-requires c κs =
     let at-load-run = c .before .before .before in
     let s = at-load-run .before .before .before .before .before in
     record {
-      room = row-room (s .args .head .width) (s .args .y) (s .args .head .height) _ (s .pre .here) (s .pre .room);
+      room = row-within s;
       narrow = s .pre .sides .narrow;
       beside-size = s .pre .below-margins .size;
       row-size = at-load-run .load-run .ensures .same ∙ s .pre .row-margins .size;

@@ -47,7 +47,9 @@ same-length-3 : tie.Need-same-length-3
 same-length-3 c = search needs
 
 returns : tie.Need-returns
-returns c = let at-fill = c .before .before .before .before .before .before in let at-asked = at-fill .before .before .before .before .before in
+returns c =
+    let at-fill = c .before .before .before .before .before .before in
+    let at-asked = at-fill .before .before .before .before .before in
     let at-start = at-asked .before .before .before .before .before .before in
     filled-as (at-start .args .relief .now) (at-asked .asked .given .1) (at-fill .erosion-fill .ensures)
 
@@ -61,7 +63,9 @@ same-length-6 : tie.Need-same-length-6
 same-length-6 c = search needs
 
 returns-2 : tie.Need-returns-2
-returns-2 c = let at-fill = c .before .before .before .before .before .before in let at-asked = at-fill .before .before .before .before .before in
+returns-2 c =
+    let at-fill = c .before .before .before .before .before .before in
+    let at-asked = at-fill .before .before .before .before .before in
     let at-start = at-asked .before .before .before .before .before .before in
     filled-as (at-start .args .relief .now) (at-asked .asked2 .given .1) (at-fill .residue-fill .ensures)
 
@@ -75,7 +79,9 @@ same-length-9 : tie.Need-same-length-9
 same-length-9 c = search needs
 
 returns-3 : tie.Need-returns-3
-returns-3 c = let at-fill = c .before .before .before .before .before .before in let at-asked = at-fill .before .before .before .before .before in
+returns-3 c =
+    let at-fill = c .before .before .before .before .before .before in
+    let at-asked = at-fill .before .before .before .before .before in
     let at-start = at-asked .before .before .before .before .before .before in
     filled-as (at-start .args .relief .now) (at-asked .asked3 .given .1) (at-fill .score-fill .ensures)
 

@@ -57,7 +57,9 @@ mark-run-requires c κs =
     }
 
 sub-mark-cells : tie.Need-sub-mark-cells
-sub-mark-cells c = let past-test = c .before .before .before .before in omega (arith, inner past-test .wide)
+sub-mark-cells c =
+    let past-test = c .before .before .before .before in
+    omega (arith, inner past-test .wide)
 
 mark-cells-requires-3 : tie.Need-mark-cells-requires-3
 mark-cells-requires-3 c κs = search needs

@@ -37,7 +37,9 @@ cast-start : tie.Need-cast-start
 cast-start c = search needs
 
 mul-start : tie.Need-mul-start
-mul-start c = let at-start = c .before .before .before .before .before in omega (arith, row-within at-start)
+mul-start c =
+    let at-start = c .before .before .before .before .before in
+    omega (arith, row-within at-start)
 
 residue-cells-requires-2 : tie.Need-residue-cells-requires-2
 residue-cells-requires-2 c κs =
@@ -48,16 +50,23 @@ cast-residue-run : tie.Need-cast-residue-run
 cast-residue-run c = search needs
 
 add-residue-run : tie.Need-add-residue-run
-add-residue-run c = let at-start = c .before .before .before .before .before .before .before .before .before .before in let past-test = c .before .before .before .before .before in omega (arith, row-within at-start, inner past-test .wide)
+add-residue-run c =
+    let at-start = c .before .before .before .before .before .before .before .before .before .before in
+    let past-test = c .before .before .before .before .before in
+    omega (arith, row-within at-start, inner past-test .wide)
 
 cast-residue-run-2 : tie.Need-cast-residue-run-2
 cast-residue-run-2 c = search needs
 
 add-residue-run-2 : tie.Need-add-residue-run-2
-add-residue-run-2 c = let at-start = c .before .before .before .before .before .before .before .before .before .before in omega (arith, row-within at-start)
+add-residue-run-2 c =
+    let at-start = c .before .before .before .before .before .before .before .before .before .before in
+    omega (arith, row-within at-start)
 
 sub-residue-run : tie.Need-sub-residue-run
-sub-residue-run c = let past-test = c .before .before .before .before .before in omega (arith, inner past-test .wide)
+sub-residue-run c =
+    let past-test = c .before .before .before .before .before in
+    omega (arith, inner past-test .wide)
 
 residue-run-requires : tie.Need-residue-run-requires
 residue-run-requires c κs =
@@ -77,7 +86,9 @@ residue-run-requires c κs =
     )
 
 sub-residue-cells : tie.Need-sub-residue-cells
-sub-residue-cells c = let past-test = c .before .before .before .before .before .before .before .before .before in omega (arith, inner past-test .wide)
+sub-residue-cells c =
+    let past-test = c .before .before .before .before .before .before .before .before .before in
+    omega (arith, inner past-test .wide)
 
 residue-cells-requires-3 : tie.Need-residue-cells-requires-3
 residue-cells-requires-3 c κs = search needs

@@ -1,12 +1,17 @@
 -- `load_row` leaves the start of a row: seeds with the row's floor, then both ends raised to the border's number.
 use mathlib.Core.Path.{ap, _∙_}
-use Prim.Native.Nat.{_-_}
+use Prim.Native.Nat.{_+_, _-_, _*_, _≤_}
+use lib.ListN.{length}
 use native.Mathlib.Omega.{arith}
 use borrow.Author.Needs.{needs}
 use Rattle.buffers.proofs.Rooms.{row-room}
 use Rattle.row_arrays.proofs.Start.{loaded}
 use Rattle.row_arrays.proofs.load_row.Statement.{statement}
 use Rattle.row_arrays.proofs.load_row.Tie as tie
+
+-- the row lies in the map
+row-within : (s : tie.Start) → s .args .y * s .args .head .width + s .args .head .width ≤ length (s .args .map .now)
+row-within s = row-room (s .args .head .width) (s .args .y) (s .args .head .height) _ (s .pre .here) (s .pre .long)
 
 cast-width : tie.Need-cast-width
 cast-width c = search needs
@@ -26,14 +31,12 @@ floor-of-requires c κs = search needs
 mul-load-run : tie.Need-mul-load-run
 mul-load-run c =
     let at-start = c .before .before .before .before .before .before in
-    let a = at-start .args in
-    omega (arith, row-room (a .head .width) (a .y) (a .head .height) _ (at-start .pre .here) (at-start .pre .long))
+    omega (arith, row-within at-start)
 
 load-run-requires : tie.Need-load-run-requires
 load-run-requires c κs =
-    let at-start = c .before .before .before .before .before .before .before in
-    let a = at-start .args in (
-      row-room (a .head .width) (a .y) (a .head .height) _ (at-start .pre .here) (at-start .pre .long),
+    let at-start = c .before .before .before .before .before .before .before in (
+      row-within at-start,
       at-start .pre .sides .narrow,
       at-start .pre .margins .size,
     )
