@@ -1,4 +1,4 @@
--- What a loop leaves in a buffer, place by place; and a buffer that starts with a map.
+-- Serves proofs: what a loop leaves in a buffer, place by place, and a buffer that starts with a map.
 use mathlib.Core.Path.{_≡_}
 use mathlib.Core.List.{List}
 use Prim.Native.Nat.{ℕ, _+_, _*_, _≤_, _<_}

@@ -1,4 +1,4 @@
--- Maps that are 0 near the plate's border.
+-- Serves proofs: maps that are 0 near the plate's border.
 use mathlib.Core.Path.{_≡_}
 use mathlib.Core.List.{List}
 use Prim.Native.Nat.{ℕ, _+_, _*_, _≤_, _<_}

@@ -9,13 +9,13 @@ use lib.Dec.{eqb, ltb}
 use lib.ListN.{length}
 use Rattle.geometry.specs.declared.Head.{Head}
 use Rattle.geometry.specs.Plane.{cell}
-use Rattle.geometry.specs.Plate.{area}
 use Rattle.theory.specs.Levels.{clearance}
 use Rattle.theory.proofs.Levels.{clearance-limit}
 use Rattle.refusal.specs.declared.Verdict.{Verdict}
 use Rattle.refusal.specs.declared.Verdict.the-variants.{Accepted}
 use Rattle.refusal.specs.Refusals.{firstMet, mapTrials, headOf, largestErosion}
 use Rattle.refusal.proofs.Refusals.{map-sound}
+use Rattle.clearance_cell.specs.Search.{Searchable}
 use Rattle.clearance_cell.specs.Calls.{clearanceAnswer, cellAnswer, wrongCell}
 
 right-cell : (t x y w h : ℕ) → wrongCell t x y w h ≡ false → (1 ≤ t) × (x < w) × (y < h)
@@ -28,10 +28,7 @@ right-cell t x y w h = go (eqb t 0) (ltb x w) refl refl
 
 -- what the search asks of a plate, a map, a level and a cell; its answer fits a byte
 pub record Ready (p : Head) (m : List ℕ) (t x y : ℕ) : Type 0 where
-  pub level : 1 ≤ t
-  pub left : x < p .width
-  pub upper : y < p .height
-  pub long : area p ≤ length m
+  pub asked : Searchable p m t x y
   pub fits : clearance p m t (cell x y) ≤ largestErosion
 
 -- the verdict of a call, with the test of its level and cell
@@ -46,10 +43,7 @@ module _ {m : List ℕ} {k w h t x y : ℕ} {v : Verdict} (j : Judged m k w h t 
       let s = map-sound k w h (j .wrong) (length m) (sym (j .first) ∙ e) in
       let r = right-cell t x y w h (sym (j .tested) ∙ s .right) in
       record {
-        level = r .0;
-        left = r .1;
-        upper = r .2;
-        long = s .long;
+        asked = record { level = r .0; left = r .1; upper = r .2; long = s .long };
         fits = clearance-limit (headOf k w h) m t (r .0) largestErosion (omega (arith, s .narrow)) (cell x y);
       }
 

@@ -1,4 +1,4 @@
--- The clearance of one cell, as a call (document 01, "One level at a time" and "Refusals in their order").
+-- To be believed: the clearance of one cell, as a call (document 01, "One level at a time" and "Refusals in their order").
 use mathlib.Core.Bool.{Bool, true, cond, not}
 use mathlib.Core.List.{List, [], _∷_}
 use Prim.Native.Nat.{ℕ}

@@ -1,11 +1,20 @@
--- The clearance of one cell, as a call (document 01, "One level at a time" and "Refusals in their order").
+-- Serves proofs: what the search for the nearest wall asks, and what its parts find.
 use mathlib.Core.Path.{_≡_}
 use mathlib.Core.Logic.{_⊎_}
 use mathlib.Core.List.{List}
 use Prim.Native.Nat.{ℕ, _+_, _-_, _≤_, _<_, min, max}
-use lib.ListN.{getD}
+use lib.ListN.{length, getD}
 use Rattle.geometry.specs.declared.Kind.{Kind}
 use Rattle.geometry.specs.declared.Kind.the-variants.{Diamond, Square}
+use Rattle.geometry.specs.declared.Head.{Head}
+use Rattle.geometry.specs.Plate.{area}
+
+-- a level, and a cell of a plate whose map is held
+pub record Searchable (p : Head) (m : List ℕ) (t x y : ℕ) : Type 0 where
+  pub level : 1 ≤ t
+  pub left : x < p .width
+  pub upper : y < p .height
+  pub long : area p ≤ length m
 
 -- ---- what the parts of the search find
 

@@ -5,12 +5,11 @@ use geometry::Kind;
 use refusal::Refusal;
 use refusal::Verdict;
 ghost use mathlib.Core.Path.{_≡_};
-ghost use Prim.Native.Nat.{_+_, _≤_, _<_, max};
+ghost use Prim.Native.Nat.{_+_, _≤_, _<_};
 ghost use lib.ListN.{length};
 ghost use Rattle.geometry.specs.Plane.{cell};
-ghost use Rattle.geometry.specs.Plate.{area};
 ghost use Rattle.theory.specs.Levels.{clearance};
-ghost use Rattle.clearance_cell.specs.Search.{edgeDistance, RowGap, InRow};
+ghost use Rattle.clearance_cell.specs.Search.{Searchable, edgeDistance, RowGap, InRow};
 ghost use Rattle.clearance_cell.specs.Calls.{clearanceAnswer, wrongCell};
 
 // The clearance, or the first refusal met.
@@ -68,7 +67,7 @@ fn nearest_in_row(
 
 // The clearance of a cell of the plate, row by row outwards until no row can hold a nearer wall.
 fn nearest_wall(head: Head, map: &[u8], level: u8, column: usize, row: usize) -> usize
-    requires { ⌜ (1 ≤ level) × (column < head .width) × (row < head .height) × (area head ≤ length (now map)) ⌝ }
+    requires { ⌜ Searchable head (now map) level column row ⌝ }
     ensures { λ r. ⌜ r ≡ clearance head (now (map .entry)) level (cell column row) ⌝ }
 {
     let kind = head.kind;

@@ -59,9 +59,6 @@ module _ (k w h : ℕ) (wrong : Bool) (m out : List ℕ) where
   pub by-shorter : (n : ℕ) → n ≡ min (length m) (length out) → (v : Verdict) → v ≡ firstMet (mapTrials k w h wrong (n ∷ [])) → v ≡ said
   by-shorter n e v g = g ∙ smaller-said n e
 
-  pub answered-refused : (r : Refusal) (new : List ℕ) → said ≡ Refused r → Answered said new out out (Refused r)
-  answered-refused r new a = record { answer = sym a; bytes = ap (λ (u : Verdict). written u new out) (sym a) }
-
   -- on a refusal an output is as it was, whatever was to be written
   pub refused-again : (r : Refusal) (new new′ out′ : List ℕ) (v : Verdict) → Answered said new out out′ v → v ≡ Refused r
       → Answered said new′ out out′ (Refused r)

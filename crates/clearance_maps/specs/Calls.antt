@@ -1,4 +1,4 @@
--- Maps of one level, as calls: what each answers, and what its output holds at exit (document 01, "One level at a time").
+-- To be believed: maps of one level, as calls: what each answers, and what its output holds at exit (document 01, "One level at a time").
 use mathlib.Core.Bool.{false}
 use mathlib.Core.List.{List, [], _∷_}
 use Prim.Native.Nat.{ℕ}

@@ -1,4 +1,4 @@
--- What the transform's numbers say at the end: 255 less the number is the clearance from the walls of a level, those off the plate included;
+-- What the transform's numbers say at the end: wallSeed less the number is the clearance from the walls of a level, those off the plate included;
 -- of a map's own numbers, above 0 is where the map reaches.
 use mathlib.Core.Path.{_≡_, refl, sym, ap, _∙_}
 use mathlib.Core.Logic.{_⊎_, inl, inr}
@@ -26,7 +26,8 @@ use Rattle.refusal.specs.Refusals.{largestSide}
 use Rattle.buffers.specs.Fill.{Filled, Mapped}
 use Rattle.row_arrays.specs.declared.Seeds.{Seeds}
 use Rattle.row_arrays.specs.declared.Seeds.the-variants.{Walls, Numbers}
-use Rattle.row_arrays.specs.Start.{seed, onBorder, start}
+use Rattle.row_arrays.specs.Start.{wallSeed, seed, onBorder, start}
+use Rattle.row_arrays.proofs.Rows.{row-fits}
 use Rattle.refusal.specs.Sides.{Sides}
 use Rattle.distance_transform.specs.Transform.{Plates, Propagated, Down, Up, finish, IsLevel, levelled}
 use Rattle.distance_transform.proofs.Join.{dist-along}
@@ -78,22 +79,22 @@ module _ (p : Head) (m : List ℕ) (t : ℕ) (level : 1 ≤ t) where
   abbrev q : ℕ → ℕ → ℕ
   q = start p (Walls t) m
 
-  -- off the plate: 255, a step from it 254
-  edge-is : seed (Walls t) 0 - 1 ≡ 254
+  -- off the plate the number of a wall, a step from it one less
+  edge-is : seed (Walls t) 0 - 1 ≡ wallSeed - 1
   edge-is = rw (lt-ltb 0 t level)
 
-  wall-start : (a b : ℕ) → at p m (cell a b) < t → 255 ≤ q a b
-  wall-start a b h = let e : seed (Walls t) (at p m (cell a b)) ≡ 255 = rw (lt-ltb _ _ h) in omega arith
+  wall-start : (a b : ℕ) → at p m (cell a b) < t → wallSeed ≤ q a b
+  wall-start a b h = let e : seed (Walls t) (at p m (cell a b)) ≡ wallSeed = rw (lt-ltb _ _ h) in omega arith
 
-  border-start : (a b : ℕ) → Side p a b → 254 ≤ q a b
+  border-start : (a b : ℕ) → Side p a b → wallSeed - 1 ≤ q a b
   border-start a b h =
-      let e : cond (onBorder p a b) (seed (Walls t) 0 - 1) 0 ≡ 254 = rw (side-border p a b h) edge-is in
+      let e : cond (onBorder p a b) (seed (Walls t) 0 - 1) 0 ≡ wallSeed - 1 = rw (side-border p a b h) edge-is in
       omega arith
 
   -- where a number at the start comes from
   data Start (a b : ℕ) : Type 0 where
-    wall : at p m (cell a b) < t → q a b ≤ 255 → Start a b
-    border : Side p a b → q a b ≤ 254 → Start a b
+    wall : at p m (cell a b) < t → q a b ≤ wallSeed → Start a b
+    border : Side p a b → q a b ≤ wallSeed - 1 → Start a b
     none : q a b ≤ 0 → Start a b
 
   start-from : (a b : ℕ) → Start a b
@@ -101,16 +102,16 @@ module _ (p : Head) (m : List ℕ) (t : ℕ) (level : 1 ≤ t) where
     where
       go : (i j : Bool) → ltb (at p m (cell a b)) t ≡ i → onBorder p a b ≡ j → Start a b
       go true true e g =
-          let s : seed (Walls t) (at p m (cell a b)) ≡ 255 = rw e in
-          let k : cond (onBorder p a b) (seed (Walls t) 0 - 1) 0 ≡ 254 = rw g edge-is in
+          let s : seed (Walls t) (at p m (cell a b)) ≡ wallSeed = rw e in
+          let k : cond (onBorder p a b) (seed (Walls t) 0 - 1) 0 ≡ wallSeed - 1 = rw g edge-is in
           wall (ltb-true _ _ e) (omega arith)
       go true false e g =
-          let s : seed (Walls t) (at p m (cell a b)) ≡ 255 = rw e in
+          let s : seed (Walls t) (at p m (cell a b)) ≡ wallSeed = rw e in
           let k : cond (onBorder p a b) (seed (Walls t) 0 - 1) 0 ≡ 0 = rw g in
           wall (ltb-true _ _ e) (omega arith)
       go false true e g =
           let s : seed (Walls t) (at p m (cell a b)) ≡ 0 = rw e in
-          let k : cond (onBorder p a b) (seed (Walls t) 0 - 1) 0 ≡ 254 = rw g edge-is in
+          let k : cond (onBorder p a b) (seed (Walls t) 0 - 1) 0 ≡ wallSeed - 1 = rw g edge-is in
           border (border-side p a b g) (omega arith)
       go false false e g =
           let s : seed (Walls t) (at p m (cell a b)) ≡ 0 = rw e in
@@ -193,7 +194,7 @@ module _ (p : Head) (m : List ℕ) (t : ℕ) (level : 1 ≤ t) where
         go (pos a) (pos b) e g = plate a b e g (decLe (suc a) (p .width)) (decLe (suc b) (p .height))
 
     module _ (narrow : p .width ≤ largestSide) (v : ℕ) (s : Propagated (p .kind) (p .width) (λ b. b < p .height) q x y v) where
-      low : (d : Cell) → at p m d < t → On p d ⊎ Towards d → 255 - v ≤ dist (p .kind) (cell x y) d
+      low : (d : Cell) → at p m d < t → On p d ⊎ Towards d → wallSeed - v ≤ dist (p .kind) (cell x y) d
       low d h (inl o) =
           omega (
             arith,
@@ -205,10 +206,10 @@ module _ (p : Head) (m : List ℕ) (t : ℕ) (level : 1 ≤ t) where
 
       -- the plate's own border is near enough that the number is above 0
       above-zero : 1 ≤ v
-      above-zero = omega (arith, border-start 0 y (inl refl), s .bound 0 y (omega arith) upper, dist-along (p .kind) x 0 y)
+      above-zero = omega (arith, row-fits .above, border-start 0 y (inl refl), s .bound 0 y (omega arith) upper, dist-along (p .kind) x 0 y)
 
       abbrev Met : Type 0
-      Met = (o : Cell) × (at p m o < t) × (dist (p .kind) (cell x y) o ≡ 255 - v)
+      Met = (o : Cell) × (at p m o < t) × (dist (p .kind) (cell x y) o ≡ wallSeed - v)
 
       met : (v ≡ 0) ⊎ ((a : ℕ) × (b : ℕ) × (a < p .width) × (b < p .height) × (v + dist (p .kind) (cell x y) (cell a b) ≤ q a b)) → Met
       met (inl z) = absurd (omega (arith, above-zero))
@@ -224,8 +225,8 @@ module _ (p : Head) (m : List ℕ) (t : ℕ) (level : 1 ≤ t) where
               )
           go (none k) = absurd (omega (arith, above-zero))
 
-      pub walls-clearance : 255 - v ≡ clearance p m t (cell x y)
-      walls-clearance = clearance-unique p m t level (cell x y) (255 - v) (record { bound = λ d h. low d h (towards d); met = met (s .met) })
+      pub walls-clearance : wallSeed - v ≡ clearance p m t (cell x y)
+      walls-clearance = clearance-unique p m t level (cell x y) (wallSeed - v) (record { bound = λ d h. low d h (towards d); met = met (s .met) })
 
 -- ---- numbers
 

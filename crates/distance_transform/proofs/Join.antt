@@ -1,4 +1,4 @@
--- Laws of the passes: a row spread along itself, and the step from the row beside, which is one nearer to every cell beyond it.
+-- Laws of the passes: a row propagated along itself, and the step from the row beside, which is one nearer to every cell beyond it.
 use mathlib.Core.Path.{_≡_, refl, sym, ap, _∙_, subst}
 use mathlib.Core.Logic.{_⊎_, inl, inr}
 use mathlib.Core.List.{List}
@@ -12,9 +12,9 @@ use Rattle.geometry.specs.declared.Kind.the-variants.{Diamond, Square}
 use Rattle.geometry.specs.Plane.{cell, gap, dist}
 use Rattle.theory.proofs.Distance.{dist-tri}
 use Rattle.refusal.specs.Refusals.{largestSide}
-use Rattle.row_arrays.specs.Rows.{margin, Margins, Line, highestBeside, joinedRow, Merged}
+use Rattle.row_arrays.specs.Rows.{margin, rowReach, Margins, Line, highestBeside, joinedRow, Merged}
 use Rattle.distance_transform.specs.Transform.{Propagated, RowPropagated, MapPropagated, RowOnly}
-use Rattle.row_arrays.proofs.Rows.{margins-filled}
+use Rattle.row_arrays.proofs.Rows.{row-fits, margins-filled}
 
 -- ---- along a row
 
@@ -22,14 +22,14 @@ pub dist-along : (kd : Kind) (x a y : ℕ) → dist kd (cell x y) (cell a y) ≡
 dist-along Diamond x a y = omega arith
 dist-along Square x a y = omega arith
 
--- a reach of 256 is past every column
-pub line-propagated : (kd : Kind) (w : ℕ) (q : ℕ → ℕ → ℕ) (y : ℕ) (row : List ℕ) → w ≤ largestSide → Line (λ a. q a y) w 256 row
+-- the steps along a row reach past every column
+pub line-propagated : (kd : Kind) (w : ℕ) (q : ℕ → ℕ → ℕ) (y : ℕ) (row : List ℕ) → w ≤ largestSide → Line (λ a. q a y) w rowReach row
     → RowPropagated kd w (λ b. b ≡ y) q y row
 line-propagated kd w q y row small l = record { margins = l .margins; cells = λ x h. record { bound = bound x h; met = met x (l .met x h) } }
   where
     bound : (x : ℕ) → x < w → (a b : ℕ) → a < w → b ≡ y → q a b ≤ getD row (margin + x) 0 + dist kd (cell x y) (cell a b)
     bound x h a b g e = subst (λ (j : ℕ). q a j ≤ getD row (margin + x) 0 + dist kd (cell x y) (cell a j)) (sym e)
-        (omega (arith, dist-along kd x a y, l .bound x a h g (omega arith)))
+        (omega (arith, dist-along kd x a y, l .bound x a h g (omega (arith, row-fits .reached))))
 
     met : (x : ℕ) → (getD row (margin + x) 0 ≡ 0) ⊎ ((a : ℕ) × (a < w) × (getD row (margin + x) 0 + gap (pos x) (pos a) ≤ q a y))
         → (getD row (margin + x) 0 ≡ 0) ⊎ ((a : ℕ) × (b : ℕ) × (a < w) × (b ≡ y) × (getD row (margin + x) 0 + dist kd (cell x y) (cell a b) ≤ q a b))
@@ -135,7 +135,7 @@ module _ (w : ℕ) (beside : List ℕ) (m : Margins w beside) (x y z : ℕ) (lef
 
 module _ (kd : Kind) (w : ℕ) (Own Beside Both : ℕ → Type 0) (q : ℕ → ℕ → ℕ) (y z : ℕ) (joins : Joins Own Beside Both y z)
     (row beside : List ℕ) (own : RowPropagated kd w Own q y row) (next : RowPropagated kd w Beside q z beside) where
-  -- the highest of a row's own numbers and the row beside's, less 1, spreads over both
+  -- the highest of a row's own numbers and the row beside's, less 1, is propagated over both
   propagated-join : (x : ℕ) → x < w → (v : ℕ) → v ≡ joinedRow kd beside row (margin + x) → Propagated kd w Both q x y v
   propagated-join x h v e = record { bound = λ a b g c. bound a b g (joins .split b c); met = met (decLe v (getD row (margin + x) 0)) }
     where

@@ -12,11 +12,11 @@ use Rattle.buffers.specs.Fill.{Filled, PlateOnly}
 use Rattle.buffers.proofs.Fill.{row-under}
 use Rattle.refusal.specs.Refusals.{largestSide}
 use Rattle.row_arrays.specs.declared.Seeds.the-variants.{Numbers}
-use Rattle.row_arrays.specs.Rows.{margin, Margins, Row, Widened, joinedRow, Merged}
+use Rattle.row_arrays.specs.Rows.{margin, rowReach, Margins, Row, Widened, joinedRow, Merged}
 use Rattle.row_arrays.specs.Start.{seed}
 use Rattle.distance_transform.specs.Transform.{Propagated, RowPropagated, MapPropagated, RowOnly, RowDown, RowUp, Lowered, Down, Up}
 use Rattle.row_arrays.proofs.Rows.{zeros, row-zeros, margins-filled, line-start, loaded-at}
-use Rattle.row_arrays.proofs.Start.{row-end}
+use Rattle.buffers.proofs.Rooms.{row-room}
 use Rattle.distance_transform.proofs.Join.{line-propagated, down-joins, up-joins, merged-array, merged-cells, merged-only}
 
 -- ---- one row
@@ -36,7 +36,7 @@ module _ (p : Head) where
   w = p .width
 
   pub row-down : (q : ℕ → ℕ → ℕ) (y : ℕ) (row₁ row₂ row₃ spare above above′ out out′ : List ℕ) → w ≤ largestSide → Row (λ x. q x y) w row₁
-      → Widened w 1 256 row₁ row₂ spare → RowPropagated (p .kind) w (λ b. b < y) q (y - 1) above
+      → Widened w 1 rowReach row₁ row₂ spare → RowPropagated (p .kind) w (λ b. b < y) q (y - 1) above
       → Merged (p .kind) w (y * w) above above′ row₂ row₃ out out′ → RowDown p q y row₃ spare above′ out out′
   row-down q y row₁ row₂ row₃ spare above above′ out out′ small r l a h =
       record {
@@ -76,7 +76,7 @@ module _ (p : Head) where
   plate-none out = record { same = refl; surplus = λ n h. refl }
 
   plate-more : (y : ℕ) (old mid new : List ℕ) → y < p .height → PlateOnly p old mid → RowOnly w y mid new → PlateOnly p old new
-  plate-more y old mid new h k o = record { same = o .same ∙ k .same; surplus = λ n g. o .over n (omega (arith, row-end w y (p .height) h)) ∙ k .surplus n g }
+  plate-more y old mid new h k o = record { same = o .same ∙ k .same; surplus = λ n g. o .over n (row-room w y (p .height) n h g) ∙ k .surplus n g }
 
   -- a row that was not written is as it was
   other-row : (Among : ℕ → Type 0) (q : ℕ → ℕ → ℕ) (y j : ℕ) (mid new : List ℕ) → RowOnly w y mid new → (j < y) ⊎ (y < j)
@@ -85,7 +85,7 @@ module _ (p : Head) where
     where
       go : (j < y) ⊎ (y < j) → getD new (j * w + x) 0 ≡ getD mid (j * w + x) 0
       go (inl g) = o .under (j * w + x) (row-under w y x j l g)
-      go (inr g) = o .over (j * w + x) (omega (arith, row-end w y j g))
+      go (inr g) = o .over (j * w + x) (omega (arith, row-room w y j (j * w) g (omega arith)))
 
   -- rows below y are done, the last of them stands in the array
   pub record DownTo (q : ℕ → ℕ → ℕ) (y : ℕ) (old row spare above out : List ℕ) : Type 0 where
@@ -166,7 +166,7 @@ module _ (p : Head) where
         kept = plate-more z old mid new (omega (arith, d .within)) (d .kept) (r .kept);
         row-margins = r .row-margins;
         below-margins = r .below-margins;
-        under = λ n l. r .kept .under n l ∙ d .under n (omega (arith, row-end w z y (omega arith)));
+        under = λ n l. r .kept .under n l ∙ d .under n (omega (arith, row-room w z y (y * w) (omega arith) (omega arith)));
         array = λ q s. r .array q (own q s) (next q s);
         rows = λ q s j g l. go q s j l g (decLe j z);
       }

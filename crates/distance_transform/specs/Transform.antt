@@ -1,4 +1,5 @@
--- The transform: at each cell the highest of all cells' numbers less their distance; what its passes leave, and what its numbers say at the end.
+-- Serves proofs: the transform, at each cell the highest of all cells' numbers less their distance; what its passes ask and leave, and what its
+-- numbers say at the end.
 use mathlib.Core.Path.{_≡_}
 use mathlib.Core.Logic.{_⊎_}
 use mathlib.Core.Bool.{cond}
@@ -15,6 +16,7 @@ use Rattle.buffers.specs.Fill.{PlateOnly}
 use Rattle.row_arrays.specs.declared.Seeds.{Seeds}
 use Rattle.row_arrays.specs.declared.Seeds.the-variants.{Walls, Numbers}
 use Rattle.row_arrays.specs.Rows.{margin, Margins}
+use Rattle.row_arrays.specs.Start.{wallSeed}
 use Rattle.refusal.specs.Sides.{Sides}
 
 -- a plate of fitting sides, and buffers that hold its map and have room for one
@@ -38,13 +40,28 @@ pub record RowPropagated (kd : Kind) (w : ℕ) (Among : ℕ → Type 0) (q : ℕ
 abbrev pub MapPropagated : Kind → ℕ → (ℕ → Type 0) → (ℕ → ℕ → ℕ) → ℕ → List ℕ → Type 0
 MapPropagated kd w Among q y out = (x : ℕ) → x < w → Propagated kd w Among q x y (getD out (y * w + x) 0)
 
+-- what row y asks on the way down, with the row above in an array; on the way up, with the row below
+pub record BeforeDown (p : Head) (q : ℕ → ℕ → ℕ) (m : List ℕ) (y : ℕ) (row spare above out : List ℕ) : Type 0 where
+  pub plates : Plates p m out
+  pub here : y < p .height
+  pub row-margins : Margins (p .width) row
+  pub spare-margins : Margins (p .width) spare
+  pub array : RowPropagated (p .kind) (p .width) (λ b. b < y) q (y - 1) above
+
+pub record BeforeUp (p : Head) (y : ℕ) (row below out : List ℕ) : Type 0 where
+  pub sides : Sides p
+  pub room : area p ≤ length out
+  pub here : y < p .height
+  pub row-margins : Margins (p .width) row
+  pub below-margins : Margins (p .width) below
+
 -- all of a map but row y is as it was
 pub record RowOnly (w y : ℕ) (out out′ : List ℕ) : Type 0 where
   pub same : length out′ ≡ length out
   pub under : (n : ℕ) → n < y * w → getD out′ n 0 ≡ getD out n 0
   pub over : (n : ℕ) → y * w + w ≤ n → getD out′ n 0 ≡ getD out n 0
 
--- row y on the way down: spread over the rows up to it, from the row above
+-- row y on the way down: propagated over the rows up to it, from the row above
 pub record RowDown (p : Head) (q : ℕ → ℕ → ℕ) (y : ℕ) (row′ spare′ above′ out out′ : List ℕ) : Type 0 where
   pub kept : RowOnly (p .width) y out out′
   pub row-margins : Margins (p .width) row′
@@ -57,8 +74,10 @@ pub record RowUp (p : Head) (y : ℕ) (row′ below below′ out out′ : List �
   pub kept : RowOnly (p .width) y out out′
   pub row-margins : Margins (p .width) row′
   pub below-margins : Margins (p .width) below′
-  pub array : (q : ℕ → ℕ → ℕ) → MapPropagated (p .kind) (p .width) (λ b. b < y + 1) q y out → RowPropagated (p .kind) (p .width) (λ b. b < p .height) q (y + 1) below → RowPropagated (p .kind) (p .width) (λ b. b < p .height) q y below′
-  pub cells : (q : ℕ → ℕ → ℕ) → MapPropagated (p .kind) (p .width) (λ b. b < y + 1) q y out → RowPropagated (p .kind) (p .width) (λ b. b < p .height) q (y + 1) below → MapPropagated (p .kind) (p .width) (λ b. b < p .height) q y out′
+  pub array : (q : ℕ → ℕ → ℕ) → MapPropagated (p .kind) (p .width) (λ b. b < y + 1) q y out
+      → RowPropagated (p .kind) (p .width) (λ b. b < p .height) q (y + 1) below → RowPropagated (p .kind) (p .width) (λ b. b < p .height) q y below′
+  pub cells : (q : ℕ → ℕ → ℕ) → MapPropagated (p .kind) (p .width) (λ b. b < y + 1) q y out
+      → RowPropagated (p .kind) (p .width) (λ b. b < p .height) q (y + 1) below → MapPropagated (p .kind) (p .width) (λ b. b < p .height) q y out′
 
 -- a whole map after the way down, and after the way up
 abbrev pub Lowered : Head → (ℕ → ℕ → ℕ) → List ℕ → Type 0
@@ -79,7 +98,7 @@ pub record Up (p : Head) (out out′ : List ℕ) : Type 0 where
 
 -- what a cell's number says at the end: its distance to the nearest wall, or whether some ball reaches it
 abbrev pub finish : Seeds → ℕ → ℕ
-finish (Walls t) v = 255 - v
+finish (Walls t) v = wallSeed - v
 finish Numbers v = cond (ltb 0 v) 1 0
 
 -- walls are those of a level, and a level is 1 or more

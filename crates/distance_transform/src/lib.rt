@@ -4,14 +4,13 @@ use geometry::Head;
 use row_arrays::ROW_PLACES;
 use row_arrays::Seeds;
 ghost use mathlib.Core.Path.{_≡_};
-ghost use Prim.Native.Nat.{_-_, _≤_, _<_};
+ghost use Prim.Native.Nat.{_≤_};
 ghost use lib.ListN.{length, getD};
 ghost use Rattle.geometry.specs.Plate.{area};
 ghost use Rattle.buffers.specs.Fill.{Filled, Mapped};
-ghost use Rattle.row_arrays.specs.Rows.{Margins};
 ghost use Rattle.row_arrays.specs.Start.{start};
 ghost use Rattle.refusal.specs.Sides.{Sides};
-ghost use Rattle.distance_transform.specs.Transform.{Plates, RowPropagated, RowDown, Down, RowUp, Up, finish, IsLevel, levelled};
+ghost use Rattle.distance_transform.specs.Transform.{Plates, BeforeDown, RowDown, Down, BeforeUp, RowUp, Up, finish, IsLevel, levelled};
 
 // ---- the passes
 
@@ -26,8 +25,9 @@ fn row_down(
     above: &mut [u8; ROW_PLACES],
     out: &mut [u8],
 )
-    requires { ⌜ Plates head (now map) (now out) × (y < head .height) × Margins (head .width) (now row) × Margins (head .width) (now spare) × RowPropagated (head .kind) (head .width) (λ b. b < y) (start head seeds (now map)) (y - 1) (now above) ⌝ }
-    ensures { λ _. ⌜ RowDown head (start head seeds (now (map .entry))) y (now (row .exit)) (now (spare .exit)) (now (above .exit)) (now (out .entry)) (now (out .exit)) ⌝ }
+    requires { ⌜ BeforeDown head (start head seeds (now map)) (now map) y (now row) (now spare) (now above) (now out) ⌝ }
+    ensures { λ _. ⌜ RowDown head (start head seeds (now (map .entry))) y (now (row .exit)) (now (spare .exit)) (now (above .exit))
+        (now (out .entry)) (now (out .exit)) ⌝ }
 {
     let kind = head.kind;
     let width = head.width as usize;
@@ -60,7 +60,7 @@ fn row_up(
     below: &mut [u8; ROW_PLACES],
     out: &mut [u8],
 )
-    requires { ⌜ Sides head × (area head ≤ length (now out)) × (y < head .height) × Margins (head .width) (now row) × Margins (head .width) (now below) ⌝ }
+    requires { ⌜ BeforeUp head y (now row) (now below) (now out) ⌝ }
     ensures { λ _. ⌜ RowUp head y (now (row .exit)) (now (below .entry)) (now (below .exit)) (now (out .entry)) (now (out .exit)) ⌝ }
 {
     let kind = head.kind;
@@ -91,7 +91,7 @@ fn finish_of(seeds: Seeds, v: u8) -> u8
     ensures { λ r. ⌜ r ≡ finish seeds v ⌝ }
 {
     match seeds {
-        Seeds::Walls(_level) => 255 - v,
+        Seeds::Walls(_level) => row_arrays::WALL - v,
         Seeds::Numbers => if 0 < v { 1 } else { 0 },
     }
 }

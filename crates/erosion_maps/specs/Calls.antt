@@ -1,4 +1,5 @@
--- Maps of all levels at once, as calls: rung, residue and score maps, and the volume (document 01, "Scores and volume" and "Refusals in their order").
+-- To be believed: maps of all levels at once, as calls: erosion (rung), residue and score maps, and the volume (document 01, "Scores and
+-- volume" and "Refusals in their order").
 use mathlib.Core.Bool.{false, not}
 use mathlib.Core.List.{List, [], _∷_}
 use Prim.Native.Nat.{ℕ, _*_}

@@ -1,4 +1,4 @@
--- Laws of a climb: a buffer with an erosion has a margin of zeros; one step leads from one erosion to the next; an empty one ends it.
+-- Laws of a series of erosions: a buffer with an erosion has a margin of zeros; one step leads from one erosion to the next; an empty one ends it.
 use mathlib.Core.Path.{_≡_, refl, sym, ap, _∙_, subst, fun-ext}
 use mathlib.Core.Logic.{_⊎_, inl, inr}
 use mathlib.Core.List.{List}
@@ -20,9 +20,9 @@ use Rattle.theory.proofs.Distance.{gap-self}
 use Rattle.theory.proofs.Plate.{on-or-off, at-cell}
 use Rattle.theory.proofs.Erosion.{erosion-is, erosion-zero, erosion-step, erosion-off}
 use Rattle.buffers.specs.Fill.{Filled, PlateOnly}
-use Rattle.erosion_step.specs.Steps.{Stepped}
+use Rattle.erosion_step.specs.Steps.{stepNumbers, Stepped}
 use Rattle.buffers.specs.Margin.{Margin}
-use Rattle.erosion_series.specs.Pairs.{HoldsErosion, Turn, Pair, PairStep, ErodedTo}
+use Rattle.erosion_series.specs.Pairs.{HoldsErosion, Turn, Pair, PairToStep, PairStep, ErodedTo}
 
 -- ---- margins
 
@@ -178,9 +178,9 @@ held-start p m old new h l f = record { long = omega (arith, f .same); holds = �
 pub pair-start : (p : Head) (m a b : List ℕ) → HoldsErosion p m 0 a → area p ≤ length b → Pair p m 0 a b
 pair-start p m a b r h = record { even = λ e. record { held = r; long = h; behind = λ l. absurd (omega arith) }; odd = λ o. absurd (omega arith) }
 
--- ---- the climb, turn by turn
+-- ---- the series, turn by turn
 
--- where the climb is after k steps
+-- where the series is after k steps
 pub record Eroding (p : Head) (m : List ℕ) (k : ℕ) (a b a′ b′ : List ℕ) : Type 0 where
   pub pair : Pair p m k a′ b′
   pub first : PlateOnly p a a′
@@ -191,12 +191,17 @@ eroding-start p m a b r h = record { pair = pair-start p m a b r h; first = kept
 
 module _ (p : Head) (m : List ℕ) (k : ℕ) (a b a′ b′ : List ℕ) (e : Eroding p m k a b a′ b′) where
   -- what the next step asks
-  pub eroding-asks : (k < 65536) → (1 ≤ p .width)
-      → (k < 65536) × (1 ≤ p .width) × (area p ≤ length a′) × (area p ≤ length b′) × (k % 2 ≡ 0 → Margin p k a′ × Margin p (k - 1) b′)
-      × (k % 2 ≡ 1 → Margin p k b′ × Margin p (k - 1) a′)
+  pub eroding-asks : k < stepNumbers → 1 ≤ p .width → PairToStep p k a′ b′
   eroding-asks h w =
       let l = pair-long p m k a′ b′ (e .pair) in
-      (h, w, l .0, l .1, (λ f. turn-margins p m k a′ b′ (e .pair .even f)), λ f. turn-margins p m k b′ a′ (e .pair .odd f))
+      record {
+        number = h;
+        wide = w;
+        first = l .0;
+        second = l .1;
+        even = λ f. turn-margins p m k a′ b′ (e .pair .even f);
+        odd = λ f. turn-margins p m k b′ a′ (e .pair .odd f);
+      }
 
   module _ (a″ b″ : List ℕ) (v : ℕ) (s : PairStep p k a′ b′ a″ b″ v) where
     pub eroding-more : Eroding p m (k + 1) a b a″ b″
@@ -212,7 +217,7 @@ module _ (p : Head) (m : List ℕ) (k : ℕ) (a b a′ b′ : List ℕ) (e : Ero
     pub eroding-empty : v ≡ 0 → (c : Cell) → erosion p m (k + 1) c ≡ 0
     eroding-empty = pair-empty p m k a′ b′ (e .pair) a″ b″ v s
 
--- from the copy on, the whole climb
+-- from the copy on, the whole series
 pub eroded-to : (p : Head) (m : List ℕ) (number k : ℕ) (old a b a′ b′ : List ℕ) → Filled (λ n. getD m n 0) 0 (area p) old a → Eroding p m k a b a′ b′
     → k ≤ number → (1 ≤ number → 1 ≤ k) → (k ≡ number) ⊎ ((c : Cell) → erosion p m k c ≡ 0) → ErodedTo p m number old b a′ b′ k
 eroded-to p m number k old a b a′ b′ f e h l g =

@@ -1,4 +1,4 @@
--- What a climb's buffers give: an erosion's map, a residue's map, and scores, one residue after the other.
+-- What the buffers of a series give: an erosion's map, a residue's map, and scores, one residue after the other.
 use mathlib.Core.Path.{_≡_, refl, sym, ap, _∙_, fun-ext}
 use mathlib.Core.Logic.{_⊎_, inl, inr}
 use mathlib.Core.List.{List}
@@ -18,14 +18,15 @@ use Rattle.buffers.specs.Fill.{Filled, Mapped}
 use Rattle.residue_scores.specs.declared.Score.{Score}
 use Rattle.residue_scores.specs.declared.Score.the-variants.{Largest, Sum}
 use Rattle.buffers.specs.Margin.{Margin}
+use Rattle.erosion_step.specs.Steps.{stepNumbers}
 use Rattle.residue_scores.specs.Residues.{joinedScore}
-use Rattle.erosion_series.specs.Pairs.{HoldsErosion, Turn, Pair, PairScore, ScoreUpTo}
+use Rattle.erosion_series.specs.Pairs.{HoldsErosion, Turn, Pair, PairToScore, PairScore, ScoreUpTo}
 use Rattle.residue_scores.specs.Scores.{scoreOf}
-use Rattle.erosion_series.proofs.Pairs.{mod-cases, turn-margins}
+use Rattle.erosion_series.proofs.Pairs.{mod-cases, turn-margins, pair-long}
 
 -- ---- erosions
 
--- where a climb ended before its number, the erosion is 0 there and at the number
+-- where a series ended before its number, the erosion is 0 there and at the number
 pub eroded-to-same : (p : Head) (m : List ℕ) (number k : ℕ) → k ≤ number → (k ≡ number) ⊎ ((c : Cell) → erosion p m k c ≡ 0) → (c : Cell)
     → erosion p m k c ≡ erosion p m number c
 eroded-to-same p m number k h (inl e) c = ap (λ (j : ℕ). erosion p m j c) e
@@ -73,6 +74,13 @@ pair-scored-kept p s k a b old new e = go (mod-cases k)
 -- what one residue asks of the pair
 pub pair-asks : (p : Head) (m : List ℕ) (k : ℕ) (a b : List ℕ) → Pair p m k a b → (k % 2 ≡ 0 → Margin p (k - 1) b) × (k % 2 ≡ 1 → Margin p (k - 1) a)
 pair-asks p m k a b q = ((λ f. turn-margins p m k a b (q .even f) .1), λ f. turn-margins p m k b a (q .odd f) .1)
+
+pub pair-to-score : (p : Head) (m : List ℕ) (k : ℕ) (a b out : List ℕ) → Pair p m k a b → 1 ≤ k → k < stepNumbers → area p ≤ length out
+    → PairToScore p k a b out
+pair-to-score p m k a b out q h n r =
+    let l = pair-long p m k a b q in
+    let g = pair-asks p m k a b q in
+    record { some = h; number = n; first = l .0; second = l .1; room = r; even = g .0; odd = g .1 }
 
 pub residue-mapped : (p : Head) (m : List ℕ) (k : ℕ) (a b old zeroed new : List ℕ) → 1 ≤ k → Pair p m k a b → Filled (λ n. 0) 0 (area p) old zeroed
     → PairScore p Largest k a b zeroed new → Mapped p (residue p m k) old new
@@ -145,7 +153,7 @@ score-done p m s k limit old zeroed new h g f e =
     same (inl i) c = ap (λ (j : ℕ). scoreOf s p j m c) i
     same (inr z) c = score-stops p m s k limit h z c
 
--- a climb that ended before its number leaves no residue there
+-- a series that ended before its number leaves no residue there
 pub residue-short : (p : Head) (m : List ℕ) (number k : ℕ) (old new : List ℕ) → 1 ≤ number → k ≤ number → (k ≡ number → ⊥) → (k ≡ number)
     ⊎ ((c : Cell) → erosion p m k c ≡ 0) → Filled (λ n. 0) 0 (area p) old new → Mapped p (residue p m number) old new
 residue-short p m number k old new a h d (inl e) f = absurd (d e)

@@ -1,19 +1,16 @@
-// The climb from erosion to erosion in two buffers, turn by turn, and the maps that it fills: an erosion, a residue, a score.
+// A series of erosions in two buffers, turn by turn, and the maps that it fills: an erosion, a residue, a score.
 use geometry::Head;
 use residue_scores::Score;
-ghost use mathlib.Core.Path.{_≡_};
-ghost use Prim.Native.Nat.{_-_, _%_, _≤_, _<_};
-ghost use lib.ListN.{length};
-ghost use Rattle.geometry.specs.Plate.{area};
+ghost use Prim.Native.Nat.{_%_, _≤_, _<_};
 ghost use Rattle.theory.specs.Erosion.{erosion, residue};
 ghost use Rattle.refusal.specs.Refusals.{largestErosion};
-ghost use Rattle.buffers.specs.Fill.{Mapped, PlateOnly};
-ghost use Rattle.buffers.specs.Margin.{Margin};
-ghost use Rattle.erosion_series.specs.Pairs.{PairStep, PairScore, ErodedTo, ScoreUpTo};
+ghost use Rattle.erosion_step.specs.Steps.{stepNumbers};
+ghost use Rattle.residue_scores.specs.Scores.{scoreOf};
+ghost use Rattle.erosion_series.specs.Pairs.{PairToStep, PairToScore, SeriesBuffers, MapBuffers, PairStep, PairScore, ErodedTo, MapFilled};
 
 // The next erosion of the pair, into the buffer that has the one before.
 pub fn step_pair(head: Head, k: usize, a: &mut [u8], b: &mut [u8]) -> u8
-    requires { ⌜ (k < 65536) × (1 ≤ head .width) × (area head ≤ length (now a)) × (area head ≤ length (now b)) × (k % 2 ≡ 0 → Margin head k (now a) × Margin head (k - 1) (now b)) × (k % 2 ≡ 1 → Margin head k (now b) × Margin head (k - 1) (now a)) ⌝ }
+    requires { ⌜ PairToStep head k (now a) (now b) ⌝ }
     ensures { λ r. ⌜ PairStep head k (now (a .entry)) (now (b .entry)) (now (a .exit)) (now (b .exit)) r ⌝ }
 {
     if k % 2 == 0 {
@@ -22,10 +19,11 @@ pub fn step_pair(head: Head, k: usize, a: &mut [u8], b: &mut [u8]) -> u8
     erosion_step::erode_step(head, k, b, a)
 }
 
-// From a copy of the relief upwards, to a number or to an erosion that is 0 everywhere; how many steps were made.
+// From a copy of the relief on, to a number or to an erosion that is 0 everywhere; how many steps were made.
 fn erode_to(head: Head, relief: &[u8], number: usize, a: &mut [u8], b: &mut [u8]) -> usize
-    requires { ⌜ (number < 65536) × (1 ≤ head .width) × (area head ≤ length (now relief)) × (area head ≤ length (now a)) × (area head ≤ length (now b)) ⌝ }
-    ensures { λ r. ⌜ ErodedTo head (now (relief .entry)) number (now (a .entry)) (now (b .entry)) (now (a .exit)) (now (b .exit)) r ⌝ }
+    requires { ⌜ (number < stepNumbers) × SeriesBuffers head (now relief) (now a) (now b) ⌝ }
+    ensures { λ r. ⌜ ErodedTo head (now (relief .entry)) number (now (a .entry)) (now (b .entry))
+        (now (a .exit)) (now (b .exit)) r ⌝ }
 {
     let cells = (head.height as usize) * (head.width as usize);
     buffers::copy_run(relief, a, cells);
@@ -42,8 +40,9 @@ fn erode_to(head: Head, relief: &[u8], number: usize, a: &mut [u8], b: &mut [u8]
 
 // Residue k of the pair's erosions k - 1 and k, joined to a score.
 pub fn residue_pair(head: Head, score: Score, k: usize, a: &[u8], b: &[u8], out: &mut [u8])
-    requires { ⌜ (1 ≤ k) × (k < 65536) × (area head ≤ length (now a)) × (area head ≤ length (now b)) × (area head ≤ length (now out)) × (k % 2 ≡ 0 → Margin head (k - 1) (now b)) × (k % 2 ≡ 1 → Margin head (k - 1) (now a)) ⌝ }
-    ensures { λ _. ⌜ PairScore head score k (now (a .entry)) (now (b .entry)) (now (out .entry)) (now (out .exit)) ⌝ }
+    requires { ⌜ PairToScore head k (now a) (now b) (now out) ⌝ }
+    ensures { λ _. ⌜ PairScore head score k (now (a .entry)) (now (b .entry))
+        (now (out .entry)) (now (out .exit)) ⌝ }
 {
     if k % 2 == 0 {
         residue_scores::residue_step(head, score, k, b, a, out);
@@ -61,8 +60,9 @@ pub fn erosion_fill(
     a: &mut [u8],
     b: &mut [u8],
 )
-    requires { ⌜ (number < 65536) × (1 ≤ head .width) × (area head ≤ length (now relief)) × (area head ≤ length (now out)) × (area head ≤ length (now a)) × (area head ≤ length (now b)) ⌝ }
-    ensures { λ _. ⌜ Mapped head (erosion head (now (relief .entry)) number) (now (out .entry)) (now (out .exit)) × PlateOnly head (now (a .entry)) (now (a .exit)) × PlateOnly head (now (b .entry)) (now (b .exit)) ⌝ }
+    requires { ⌜ (number < stepNumbers) × MapBuffers head (now relief) (now out) (now a) (now b) ⌝ }
+    ensures { λ _. ⌜ MapFilled head (erosion head (now (relief .entry)) number) (now (out .entry)) (now (out .exit))
+        (now (a .entry)) (now (a .exit)) (now (b .entry)) (now (b .exit)) ⌝ }
 {
     let cells = (head.height as usize) * (head.width as usize);
     let k = erode_to(head, relief, number, a, b);
@@ -82,8 +82,9 @@ pub fn residue_fill(
     a: &mut [u8],
     b: &mut [u8],
 )
-    requires { ⌜ (1 ≤ number) × (number < 65536) × (1 ≤ head .width) × (area head ≤ length (now relief)) × (area head ≤ length (now out)) × (area head ≤ length (now a)) × (area head ≤ length (now b)) ⌝ }
-    ensures { λ _. ⌜ Mapped head (residue head (now (relief .entry)) number) (now (out .entry)) (now (out .exit)) × PlateOnly head (now (a .entry)) (now (a .exit)) × PlateOnly head (now (b .entry)) (now (b .exit)) ⌝ }
+    requires { ⌜ (1 ≤ number) × (number < stepNumbers) × MapBuffers head (now relief) (now out) (now a) (now b) ⌝ }
+    ensures { λ _. ⌜ MapFilled head (residue head (now (relief .entry)) number) (now (out .entry)) (now (out .exit))
+        (now (a .entry)) (now (a .exit)) (now (b .entry)) (now (b .exit)) ⌝ }
 {
     let cells = (head.height as usize) * (head.width as usize);
     let k = erode_to(head, relief, number, a, b);
@@ -93,7 +94,7 @@ pub fn residue_fill(
     }
 }
 
-// A score over residues 1 to the largest rung, each joined as the climb reaches it.
+// A score over residues 1 to the largest erosion, each joined as the series reaches it.
 pub fn score_fill(
     head: Head,
     score: Score,
@@ -102,8 +103,9 @@ pub fn score_fill(
     a: &mut [u8],
     b: &mut [u8],
 )
-    requires { ⌜ (1 ≤ head .width) × (area head ≤ length (now relief)) × (area head ≤ length (now out)) × (area head ≤ length (now a)) × (area head ≤ length (now b)) ⌝ }
-    ensures { λ _. ⌜ ScoreUpTo head score (now (relief .entry)) largestErosion (now (out .entry)) (now (out .exit)) × PlateOnly head (now (a .entry)) (now (a .exit)) × PlateOnly head (now (b .entry)) (now (b .exit)) ⌝ }
+    requires { ⌜ MapBuffers head (now relief) (now out) (now a) (now b) ⌝ }
+    ensures { λ _. ⌜ MapFilled head (scoreOf score head largestErosion (now (relief .entry))) (now (out .entry)) (now (out .exit))
+        (now (a .entry)) (now (a .exit)) (now (b .entry)) (now (b .exit)) ⌝ }
 {
     let cells = (head.height as usize) * (head.width as usize);
     let last = refusal::LARGEST_EROSION as usize;

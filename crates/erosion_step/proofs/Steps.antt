@@ -5,7 +5,7 @@ use mathlib.Core.List.{List, [], _∷_, map, List·Memᴰ·head}
 use Prim.Native.Nat.{ℕ, zero, suc, _+_, _*_, _-_, _≤_, _<_, max}
 use native.Mathlib.Omega.{arith}
 use native.Mathlib.Decide.{decLe}
-use native.Mathlib.Nat.{suc-mul, one-mul, mul-le-mul-right, le-of-lt}
+use native.Mathlib.Nat.{suc-mul, mul-le-mul-right, le-of-lt}
 use borrow.Author.Tests.{lt-ltb, le-ltb}
 use lib.Arith.{digits-lt}
 use lib.ListN.{length, getD, set}
@@ -18,14 +18,16 @@ use Rattle.geometry.specs.Lists.{lowest}
 use Rattle.geometry.specs.Plate.{area, at}
 use Rattle.window.specs.Windows.{windowMin, around}
 use Rattle.window.specs.Places.{windowIn}
-use Rattle.window.proofs.Windows.{window-interior, window-min-near}
+use Rattle.window.proofs.Windows.{interior-min-near}
 use Rattle.theory.specs.Near.{lowestNear}
 use Rattle.theory.proofs.Lists.{min-choice, fold-extreme}
 use Rattle.theory.proofs.Distance.{gap-self, gap-moved, moved, Move, back, on, near-in}
 use Rattle.theory.proofs.Plate.{at-cell}
 use Rattle.buffers.specs.Fill.{Filled}
 use Rattle.buffers.proofs.Fill.{filled-none, filled-more, rows-in, row-under, row-over}
+use Rattle.buffers.proofs.Rooms.{row-room, rows-room}
 use Rattle.buffers.specs.Margin.{Margin}
+use Rattle.buffers.specs.Runs.{Interior}
 use Rattle.erosion_step.specs.Steps.{Eroded, Stepped}
 
 -- ---- runs
@@ -100,7 +102,7 @@ module _ (p : Head) (m : List ℕ) where
 
   -- inside the border the nine bytes about a place are the cell's window
   pub low-inside : (x y : ℕ) → 1 ≤ x → x + 1 < p .width → 1 ≤ y → y + 1 < p .height → windowMin (p .kind) (windowIn m (p .width) (y * p .width + x)) ≡ low x y
-  low-inside x y a b c d = ap (windowMin (p .kind)) (window-interior p m x y a b c d) ∙ window-min-near p m (cell x y)
+  low-inside x y a b c d = interior-min-near p m x y a b c d
 
 -- ---- the first erosion, row by row
 
@@ -215,12 +217,6 @@ module _ (p : Head) (src old : List ℕ) where
       zero : (i j : ℕ) → Dec (1 ≤ i) → lowestNear (p .kind) (at p src) (cell i j) ≡ 0
       zero i j (no c) = let z : i ≡ 0 = omega arith in ap (λ (n : ℕ). lowestNear (p .kind) (at p src) (cell n j)) z ∙ low-west p src j
       zero i j (yes c) = low-east p src i j (omega arith)
-
--- the room about a row that is neither the first nor the last
-pub row-room : (y w h n : ℕ) → 1 ≤ y → y + 1 < h → h * w ≤ n → (w ≤ y * w) × (y * w + w + w ≤ n)
-row-room y w h n a b c =
-    let d : suc (suc y) ≤ h = omega arith in
-    (omega (arith, mul-le-mul-right w a, one-mul w), omega (arith, mul-le-mul-right w d, suc-mul (suc y) w, suc-mul y w))
 
 -- ---- a later erosion, all rows in one run
 
@@ -356,28 +352,35 @@ next-gone p k src old new h m f =
     none i j a b (yes c) = fringe-top p k src m i j a b c
     none i j a b (no c) = fringe-bottom p k src m i j a b (omega arith)
 
--- the places of a later erosion's three stretches, in order and within the buffer
+-- the places of a later erosion's three stretches, in order and within the target
 pub record NextRoom (k w h n : ℕ) : Type 0 where
   pub first : (k - 1) * w ≤ (k + 1) * w
   pub middle : (k + 1) * w ≤ (h - k - 1) * w
   pub last : (h - k - 1) * w ≤ (h - k + 1) * w
   pub all : (h - k + 1) * w ≤ n
-  pub under : w + 1 ≤ (k + 1) * w
-  pub over : (h - k - 1) * w + w + 1 ≤ n
 
-pub next-room : (k w h n : ℕ) → 1 ≤ k → 1 ≤ w → 2 * k + 3 ≤ h → h * w ≤ n → NextRoom k w h n
-next-room k w h n a b c d =
+pub next-room : (k w h n : ℕ) → 1 ≤ k → 2 * k + 3 ≤ h → h * w ≤ n → NextRoom k w h n
+next-room k w h n a c d =
     let one : k - 1 ≤ k + 1 = omega arith in
     let two : k + 1 ≤ h - k - 1 = omega arith in
     let three : h - k - 1 ≤ h - k + 1 = omega arith in
     let four : h - k + 1 ≤ h = omega arith in
-    let five : 2 ≤ k + 1 = omega arith in
-    let six : suc (suc (h - k - 1)) ≤ h = omega arith in
     record {
       first = mul-le-mul-right w one;
       middle = mul-le-mul-right w two;
       last = mul-le-mul-right w three;
       all = omega (arith, mul-le-mul-right w four);
-      under = omega (arith, mul-le-mul-right w five);
-      over = omega (arith, mul-le-mul-right w six, suc-mul (suc (h - k - 1)) w, suc-mul (h - k - 1) w);
+    }
+
+-- the run between the zeroed rows has a row before it and a row after it, and one byte more
+pub next-interior : (k w h : ℕ) (m : List ℕ) → 1 ≤ k → 1 ≤ w → 2 * k + 3 ≤ h → h * w ≤ length m → Interior w ((k + 1) * w) ((h - k - 1) * w) m
+next-interior k w h m a b c d =
+    let r = rows-room w k (h - k) h (length m) a (omega arith) (omega arith) d in
+    let one : k < k + 1 = omega arith in
+    let two : k + 1 < h - k - 1 = omega arith in
+    let three : h - k - 1 < h - k = omega arith in
+    record {
+      under = omega (arith, r .under, row-room w k (k + 1) ((k + 1) * w) one (omega arith));
+      ordered = omega (arith, row-room w (k + 1) (h - k - 1) ((h - k - 1) * w) two (omega arith));
+      over = omega (arith, r .over, row-room w (h - k - 1) (h - k) ((h - k) * w) three (omega arith));
     }

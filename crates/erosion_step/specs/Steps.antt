@@ -1,14 +1,28 @@
--- What one erosion step does to its buffers.
+-- Serves proofs: what one erosion step asks of its buffers and does to them.
 use mathlib.Core.List.{List}
-use Prim.Native.Nat.{ℕ, _+_, _*_, _≤_, _<_}
-use lib.ListN.{getD}
+use Prim.Native.Nat.{ℕ, _+_, _-_, _*_, _≤_, _<_}
+use lib.ListN.{length, getD}
 use Rattle.geometry.specs.declared.Kind.{Kind}
 use Rattle.geometry.specs.declared.Head.{Head}
-use Rattle.geometry.specs.Plate.{at}
+use Rattle.geometry.specs.Plate.{area, at}
 use Rattle.window.specs.Windows.{windowMin}
-use Rattle.window.specs.Places.{windowIn}
+use Rattle.window.specs.Places.{largestWord, windowIn}
 use Rattle.theory.specs.Near.{lowestNear}
 use Rattle.buffers.specs.Fill.{Filled, Mapped}
+use Rattle.buffers.specs.Margin.{Margin}
+
+-- erosions are numbered by 16 bits: twice such a number is a length
+abbrev pub stepNumbers : ℕ
+stepNumbers = largestWord + 1
+
+-- what the step from erosion k asks: a source that is 0 within k of the border, a target that is 0 within k - 1 of it
+pub record StepBuffers (p : Head) (k : ℕ) (src dst : List ℕ) : Type 0 where
+  pub number : k < stepNumbers
+  pub wide : 1 ≤ p .width
+  pub read : area p ≤ length src
+  pub room : area p ≤ length dst
+  pub source : Margin p k src
+  pub target : Margin p (k - 1) dst
 
 -- places from one up to another have the lowest of their nine bytes, and r is no lower than any of them
 pub record Eroded (kd : Kind) (src : List ℕ) (w from to : ℕ) (old new : List ℕ) (r : ℕ) : Type 0 where

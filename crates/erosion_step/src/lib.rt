@@ -1,16 +1,15 @@
 // One erosion step (document 01's next rung) from one buffer to another: the first of any map, and the later ones, inside the border.
 use geometry::Head;
 use geometry::Kind;
-ghost use mathlib.Core.Path.{_≡_};
-ghost use Prim.Native.Nat.{_+_, _-_, _*_, _≤_, _<_};
+ghost use Prim.Native.Nat.{_≤_};
 ghost use lib.ListN.{length};
 ghost use Rattle.geometry.specs.Plate.{area};
-ghost use Rattle.buffers.specs.Margin.{Margin};
-ghost use Rattle.erosion_step.specs.Steps.{Eroded, Stepped};
+ghost use Rattle.buffers.specs.Runs.{Interior};
+ghost use Rattle.erosion_step.specs.Steps.{StepBuffers, Eroded, Stepped};
 
 // The lowest of each cell's nine bytes, in the places from one up to another; a number no lower than any written.
 fn erode_run(kind: Kind, src: &[u8], dst: &mut [u8], width: usize, from: usize, to: usize) -> u8
-    requires { ⌜ (width + 1 ≤ from) × (from ≤ to) × (to + width + 1 ≤ length (now src)) × (to ≤ length (now dst)) ⌝ }
+    requires { ⌜ Interior width from to (now src) × (to ≤ length (now dst)) ⌝ }
     ensures { λ r. ⌜ Eroded kind (now (src .entry)) width from to (now (dst .entry)) (now (dst .exit)) r ⌝ }
 {
     let mut top = 0u8;
@@ -50,7 +49,7 @@ fn erode_first(head: Head, src: &[u8], dst: &mut [u8]) -> u8
 
 // The next erosion of a map that is 0 within k of the border, into a buffer that is 0 within k - 1 of it: one run for all rows.
 fn erode_next(head: Head, k: usize, src: &[u8], dst: &mut [u8]) -> u8
-    requires { ⌜ (1 ≤ k) × (k < 65536) × (1 ≤ head .width) × (area head ≤ length (now src)) × (area head ≤ length (now dst)) × Margin head k (now src) × Margin head (k - 1) (now dst) ⌝ }
+    requires { ⌜ (1 ≤ k) × StepBuffers head k (now src) (now dst) ⌝ }
     ensures { λ r. ⌜ Stepped head (now (src .entry)) (now (dst .entry)) (now (dst .exit)) r ⌝ }
 {
     let kind = head.kind;
@@ -74,7 +73,7 @@ fn erode_next(head: Head, k: usize, src: &[u8], dst: &mut [u8]) -> u8
 
 // Erosion k + 1 from erosion k; a number no lower than any of its own.
 pub fn erode_step(head: Head, k: usize, src: &[u8], dst: &mut [u8]) -> u8
-    requires { ⌜ (k < 65536) × (1 ≤ head .width) × (area head ≤ length (now src)) × (area head ≤ length (now dst)) × Margin head k (now src) × Margin head (k - 1) (now dst) ⌝ }
+    requires { ⌜ StepBuffers head k (now src) (now dst) ⌝ }
     ensures { λ r. ⌜ Stepped head (now (src .entry)) (now (dst .entry)) (now (dst .exit)) r ⌝ }
 {
     if k == 0 {

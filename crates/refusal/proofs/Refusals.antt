@@ -15,7 +15,8 @@ use Rattle.geometry.specs.Lists.{any}
 use Rattle.geometry.specs.Forms.{kindOf}
 use Rattle.refusal.specs.declared.Verdict.{Verdict}
 use Rattle.refusal.specs.declared.Verdict.the-variants.{Accepted, Refused}
-use Rattle.refusal.specs.Refusals.{trial, firstMet, isSide, largestSide, isErosionNumber, largestErosion, isNone, badKind, badSides, short, sideTrials, mapTrials, kindNamed, headOf}
+use Rattle.refusal.specs.declared.Refusal.{Refusal}
+use Rattle.refusal.specs.Refusals.{trial, firstMet, isSide, largestSide, isErosionNumber, largestErosion, isNone, badKind, badSides, short, sideTrials, mapTrials, kindNamed, headOf, written, Answered}
 
 -- two sides of 16 bits have a product that a length can be compared with
 pub area-fits : (w h : ℕ) → w < 65536 → h < 65536 → h * w < 4294967296
@@ -123,3 +124,7 @@ erosion-number-ok n = go (leb 1 n) (leb n largestErosion) refl refl
     go true true e g k = (leb-true _ _ e, leb-true _ _ g)
     go true false e g k = let z : _≡_ {A = ℕ} 0 1 = cc in absurd (omega arith)
     go false b e g k = let z : _≡_ {A = ℕ} 0 1 = cc in absurd (omega arith)
+
+-- a refused call answers its refusal and leaves its output
+pub answered-refused : (v : Verdict) (q : Refusal) (new out : List ℕ) → v ≡ Refused q → Answered v new out out (Refused q)
+answered-refused v q new out e = record { answer = sym e; bytes = sym (ap (λ (u : Verdict). written u new out) e) }

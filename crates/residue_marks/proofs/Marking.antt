@@ -1,11 +1,10 @@
 -- Laws of marks: nothing yet, one more, one stretch after another, stretches without a mark, and where the nine bytes about a place are a cell's window.
-use mathlib.Core.Path.{_≡_, ap, _∙_, subst}
+use mathlib.Core.Path.{_≡_, ap, subst}
 use mathlib.Core.Bool.{Bool, true, false, cond}
 use mathlib.Core.List.{List}
 use Prim.Native.Nat.{ℕ, zero, suc, _+_, _*_, _-_, _≤_, _<_}
 use native.Mathlib.Omega.{arith}
 use native.Mathlib.Decide.{decLe}
-use native.Mathlib.Nat.{suc-mul, one-mul, mul-le-mul-right}
 use native.Mathlib.Numerals.{add-one}
 use borrow.Author.Tests.{le-ltb}
 use lib.Bits.{bitOr, or-add-and, and-le-l, and-le-r}
@@ -13,13 +12,26 @@ use lib.Dec.{ltb}
 use lib.ListN.{length, getD, set}
 use Rattle.geometry.specs.declared.Head.{Head}
 use Rattle.geometry.specs.Plane.{cell}
-use Rattle.geometry.specs.Plate.{area, at}
+use Rattle.geometry.specs.Plate.{at}
 use Rattle.theory.specs.Erosion.{highestNear}
 use Rattle.window.specs.Windows.{windowMax}
-use Rattle.window.specs.Places.{windowIn}
-use Rattle.window.proofs.Windows.{window-interior, window-max-near}
+use Rattle.window.specs.Places.{windowIn, Inner}
+use Rattle.window.proofs.Windows.{interior-max-near}
 use Rattle.buffers.proofs.Fill.{filled-none, filled-more, filled-as, filled-on}
-use Rattle.residue_marks.specs.Marks.{markOf, markAt, markNear, tally, Marked, Unmarked}
+use Rattle.refusal.specs.Refusals.{largestSide}
+use Rattle.residue_marks.specs.Marks.{markPlaces, runLength, markOf, markAt, markNear, tally, Marked, Unmarked}
+
+-- ---- the length of a run
+
+-- The count of a run's marks is a byte; an array of marks holds a run; and a row of any plate is a run. The last is what plates with
+-- larger sides will have to change.
+pub record RunFits : Type 0 where
+  pub counted : runLength ≤ 255
+  pub held : runLength ≤ markPlaces
+  pub rows : largestSide ≤ runLength
+
+pub run-fits : RunFits
+run-fits = record { counted = omega arith; held = omega arith; rows = omega arith }
 
 -- ---- one mark
 
@@ -38,7 +50,7 @@ mark-zero a b e = let g : a ≤ b = omega arith in rw (le-ltb _ _ g)
 pub near-inside : (p : Head) (prev cur : List ℕ) (x y : ℕ) → 1 ≤ x → x + 1 < p .width → 1 ≤ y → y + 1 < p .height
     → markNear (p .kind) (p .width) prev cur (y * p .width + x) ≡ markAt p prev cur y x
 near-inside p prev cur x y a b c d =
-    ap (markOf (getD prev (y * p .width + x) 0)) (ap (windowMax (p .kind)) (window-interior p cur x y a b c d) ∙ window-max-near p cur (cell x y))
+    ap (markOf (getD prev (y * p .width + x) 0)) (interior-max-near p cur x y a b c d)
 
 -- marks are 0 or 1, and 0 where the first map is 0
 module _ (p : Head) (prev cur : List ℕ) where
@@ -140,24 +152,14 @@ module _ (marks : List ℕ) (from : ℕ) where
 -- ---- one row
 
 -- a row's three parts: its first column, the run inside, its last column
-pub row-parts : (p : Head) (prev cur : List ℕ) (row : ℕ) (old first second new : List ℕ) (r s t : ℕ) → 3 ≤ p .width → 1 ≤ row → row + 1 < p .height
+pub row-parts : (p : Head) (prev cur : List ℕ) (row : ℕ) (old first second new : List ℕ) (r s t : ℕ) → Inner p row
     → Marked (markAt p prev cur row) 0 1 old first r
     → Marked (λ x. markNear (p .kind) (p .width) prev cur (row * p .width + x)) 1 (p .width - 1) first second s
     → Marked (markAt p prev cur row) (p .width - 1) (p .width) second new t
     → Marked (markAt p prev cur row) 0 (p .width) old new (r + s + t)
-row-parts p prev cur row old first second new r s t w a b f g h =
+row-parts p prev cur row old first second new r s t i f g h =
+    let w = i .wide in
     marked-on (markAt p prev cur row) 0 (p .width - 1) (p .width) old second new (r + s) t (omega arith) (omega arith)
     (marked-on (markAt p prev cur row) 0 1 (p .width - 1) old first second r s (omega arith) (omega arith) f
-    (marked-as _ (markAt p prev cur row) 1 (p .width - 1) first second s (omega arith) g (λ x c d. near-inside p prev cur x row c (omega arith) a b)))
-    h
-
--- the places of a row, and of the rows beside it, lie within a buffer that holds the plate
-pub row-room : (p : Head) (row n : ℕ) → row < p .height → area p ≤ n → row * p .width + p .width ≤ n
-row-room p row n h l = omega (arith, mul-le-mul-right (p .width) h, suc-mul row (p .width))
-
-pub run-room : (p : Head) (row n : ℕ) → 1 ≤ row → row + 1 < p .height → area p ≤ n → (p .width ≤ row * p .width) × (row * p .width + p .width + p .width ≤ n)
-run-room p row n h l g =
-    let k : suc (suc row) ≤ p .height = omega arith in (
-      omega (arith, mul-le-mul-right (p .width) h, one-mul (p .width)),
-      omega (arith, mul-le-mul-right (p .width) k, suc-mul (suc row) (p .width), suc-mul row (p .width)),
-    )
+    (marked-as _ (markAt p prev cur row) 1 (p .width - 1) first second s (omega arith) g
+    (λ x c d. near-inside p prev cur x row c (omega arith) (i .first) (i .last)))) h

@@ -1,14 +1,14 @@
-// Marks of one row, or of one run of places, of two erosions: where a cell has a residue above 0, how many such cells there are, and which is next.
+// Marks of one row, or of one run of places, of two erosions: where a cell has a residue above 0, how many such cells there are,
+// and which is next.
 use geometry::Head;
 use geometry::Kind;
 ghost use mathlib.Core.Path.{_≡_};
 ghost use Prim.Native.Nat.{_+_, _*_, _≤_, _<_};
 ghost use lib.ListN.{length};
-ghost use Rattle.geometry.specs.Plate.{area};
-ghost use Rattle.refusal.specs.Refusals.{largestSide};
-ghost use Rattle.residue_marks.specs.Marks.{markPlaces, block, markOf, markAt, markNear, Marked, Unmarked, NextMark};
+ghost use Rattle.buffers.specs.Runs.{Columns};
+ghost use Rattle.residue_marks.specs.Marks.{markPlaces, block, MarkBuffers, RunBuffers, markOf, markAt, markNear, Marked, Unmarked, NextMark};
 
-// The marks of a row or a run are held in an array of this length: no plate is wider.
+// The marks of a row or a run are held in an array of this length.
 pub const MARK_PLACES: usize = 256;
 
 // The places marked at once where rows need not be told apart: a multiple of 16, and few enough that their count is a byte.
@@ -35,8 +35,9 @@ pub fn mark_run(
     to: usize,
     marks: &mut [u8; MARK_PLACES],
 ) -> u8
-    requires { ⌜ (width + 1 ≤ start + from) × (from ≤ to) × (to ≤ largestSide) × (start + to + width + 1 ≤ length (now cur)) × (start + to ≤ length (now prev)) × (length (now marks) ≡ markPlaces) ⌝ }
-    ensures { λ r. ⌜ Marked (λ x. markNear kind width (now (prev .entry)) (now (cur .entry)) (start + x)) from to (now (marks .entry)) (now (marks .exit)) r ⌝ }
+    requires { ⌜ RunBuffers width start from to (now prev) (now cur) (now marks) ⌝ }
+    ensures { λ r. ⌜ Marked (λ x. markNear kind width (now (prev .entry)) (now (cur .entry)) (start + x)) from to
+        (now (marks .entry)) (now (marks .exit)) r ⌝ }
 {
     let mut count = 0u8;
     let mut x = from;
@@ -63,8 +64,9 @@ fn mark_cells(
     to: u16,
     marks: &mut [u8; MARK_PLACES],
 ) -> u8
-    requires { ⌜ (from ≤ to) × (to ≤ head .width) × (head .width ≤ largestSide) × (row < head .height) × (area head ≤ length (now prev)) × (length (now marks) ≡ markPlaces) ⌝ }
-    ensures { λ r. ⌜ Marked (markAt head (now (prev .entry)) (now (cur .entry)) row) from to (now (marks .entry)) (now (marks .exit)) r ⌝ }
+    requires { ⌜ Columns head row from to × MarkBuffers head (now prev) (now cur) (now marks) ⌝ }
+    ensures { λ r. ⌜ Marked (markAt head (now (prev .entry)) (now (cur .entry)) row) from to
+        (now (marks .entry)) (now (marks .exit)) r ⌝ }
 {
     let kind = head.kind;
     let start = (row as usize) * (head.width as usize);
@@ -84,19 +86,13 @@ fn mark_cells(
 
 // Marks of one row: of its ends by their windows, of the other columns in one run. Returns how many are 1.
 pub fn mark_row(head: Head, prev: &[u8], cur: &[u8], row: u16, marks: &mut [u8; MARK_PLACES]) -> u8
-    requires { ⌜ (head .width ≤ largestSide) × (row < head .height) × (area head ≤ length (now prev)) × (area head ≤ length (now cur)) × (length (now marks) ≡ markPlaces) ⌝ }
-    ensures { λ r. ⌜ Marked (markAt head (now (prev .entry)) (now (cur .entry)) row) 0 (head .width) (now (marks .entry)) (now (marks .exit)) r ⌝ }
+    requires { ⌜ (row < head .height) × MarkBuffers head (now prev) (now cur) (now marks) ⌝ }
+    ensures { λ r. ⌜ Marked (markAt head (now (prev .entry)) (now (cur .entry)) row) 0 (head .width)
+        (now (marks .entry)) (now (marks .exit)) r ⌝ }
 {
     let kind = head.kind;
     let width = head.width;
-    let height = head.height;
-    if row == 0 {
-        return mark_cells(head, prev, cur, row, 0, width, marks);
-    }
-    if height - 1 <= row {
-        return mark_cells(head, prev, cur, row, 0, width, marks);
-    }
-    if width < 3 {
+    if !window::is_inner(head, row) {
         return mark_cells(head, prev, cur, row, 0, width, marks);
     }
     let wide = width as usize;

@@ -4,15 +4,15 @@ use mathlib.Core.List.{List}
 use Prim.Native.Nat.{ℕ, suc, _+_, _*_, _-_, _≤_, _<_}
 use native.Mathlib.Omega.{arith}
 use native.Mathlib.Decide.{decLe}
-use native.Mathlib.Nat.{suc-mul, zero-mul, one-mul, mul-le-mul-right}
+use native.Mathlib.Nat.{suc-mul, zero-mul, mul-le-mul-right}
 use native.Mathlib.Numerals.{add-one}
 use lib.ListN.{length, getD, set}
 use Rattle.geometry.specs.declared.Head.{Head}
 use Rattle.geometry.specs.Plane.{cell}
 use Rattle.geometry.specs.Plate.{at}
 use Rattle.window.specs.Windows.{windowMax}
-use Rattle.window.specs.Places.{windowIn}
-use Rattle.window.proofs.Windows.{window-interior, window-max-near}
+use Rattle.window.specs.Places.{windowIn, Inner}
+use Rattle.window.proofs.Windows.{interior-max-near}
 use Rattle.theory.specs.Erosion.{highestNear}
 use Rattle.buffers.specs.Fill.{Filled}
 use Rattle.buffers.proofs.Fill.{filled-more, filled-as, filled-on, row-under}
@@ -24,10 +24,6 @@ use Rattle.residue_scores.specs.Residues.{joinedScore, scoredAt, Scored}
 -- what was joined, named by what the maps hold
 pub join-as : (s : Score) (v a a′ r b x x′ : ℕ) → v ≡ joinedScore s a r → a ≡ a′ → r ≡ b - x → x ≡ x′ → v ≡ joinedScore s a′ (b - x′)
 join-as s v a a′ r b x x′ e f g h = e ∙ ap₂ (joinedScore s) f (g ∙ ap (λ (n : ℕ). b - n) h)
-
--- the place of a cell is within a buffer that holds the plate
-pub place : (y h x w n : ℕ) → y < h → x < w → h * w ≤ n → y * w + x < n
-place y h x w n a b c = omega (arith, row-under w h x y b a)
 
 -- one cell more of a row
 module _ (p : Head) (s : Score) (prev cur old : List ℕ) (row from : ℕ) where
@@ -57,13 +53,13 @@ module _ (p : Head) (s : Score) (prev cur old : List ℕ) (row : ℕ) where
       → Filled (scoredAt p s prev cur old row) here (here + p .width) old new
   row-whole new f = let k : here + 0 ≡ here = omega arith in subst (λ (j : ℕ). Filled (scoredAt p s prev cur old row) j (here + p .width) old new) k f
 
-  pub row-parts : (first second new : List ℕ) → 3 ≤ p .width → 1 ≤ row → row + 1 < p .height
+  pub row-parts : (first second new : List ℕ) → Inner p row
       → Filled (scoredAt p s prev cur old row) (here + 0) (here + 1) old first
       → Filled (λ n. joinedScore s (getD first n 0) (getD prev n 0 - windowMax (p .kind) (windowIn cur (p .width) n))) (here + 1)
       (here + p .width - 1) first second
       → Filled (scoredAt p s prev cur second row) (here + (p .width - 1)) (here + p .width) second new
       → Filled (scoredAt p s prev cur old row) here (here + p .width) old new
-  row-parts first second new w a b f g h =
+  row-parts first second new i f g h =
       row-whole new
       (filled-on _ (here + 0) (here + 1) (here + p .width) old first new (omega arith) (omega arith) f
       (filled-on _ (here + 1) (here + p .width - 1) (here + p .width) first second new (omega arith) (omega arith) middle last))
@@ -73,8 +69,7 @@ module _ (p : Head) (s : Score) (prev cur old : List ℕ) (row : ℕ) where
       inner n c d =
           let k : here + (n - here) ≡ n = omega arith in
           ap (λ (j : ℕ). windowMax (p .kind) (windowIn cur (p .width) j)) (sym k)
-          ∙ ap (windowMax (p .kind)) (window-interior p cur (n - here) row (omega arith) (omega arith) a b)
-          ∙ window-max-near p cur (cell (n - here) row)
+          ∙ interior-max-near p cur (n - here) row (omega arith) (omega arith) (i .first) (i .last)
 
       middle : Filled (scoredAt p s prev cur old row) (here + 1) (here + p .width - 1) first second
       middle = filled-as _ _ (here + 1) (here + p .width - 1) first second g
@@ -190,23 +185,7 @@ module _ (p : Head) (s : Score) (prev cur old : List ℕ) where
             let r : suc j ≤ p .height - k = omega arith in
             f .inside (j * p .width + i) (omega (arith, mul-le-mul-right (p .width) e)) (omega (arith, mul-le-mul-right (p .width) r, suc-mul j (p .width)))
             ∙ ap (λ (v : ℕ). joinedScore s (getD old (j * p .width + i) 0) (getD prev (j * p .width + i) 0 - v))
-            (ap (windowMax (p .kind)) (window-interior p cur i j l (omega arith) (omega arith) (omega arith)) ∙ window-max-near p cur (cell i j))
-
--- the places of a residue's one run, in order and within the buffer
-pub record RunRoom (k w h n : ℕ) : Type 0 where
-  pub under : w ≤ k * w
-  pub ordered : k * w + 2 ≤ (h - k) * w
-  pub over : (h - k) * w + w ≤ n
-
-pub run-room : (k w h n : ℕ) → 1 ≤ k → 3 ≤ w → 2 * k + 1 ≤ h → h * w ≤ n → RunRoom k w h n
-run-room k w h n a b c d =
-    let one : suc k ≤ h - k = omega arith in
-    let two : suc (h - k) ≤ h = omega arith in
-    record {
-      under = omega (arith, mul-le-mul-right w a, one-mul w);
-      ordered = omega (arith, mul-le-mul-right w one, suc-mul k w);
-      over = omega (arith, mul-le-mul-right w two, suc-mul (h - k) w);
-    }
+            (interior-max-near p cur i j l (omega arith) (omega arith) (omega arith))
 
 pub scored-end : (p : Head) (s : Score) (prev cur : List ℕ) (y to : ℕ) (old new : List ℕ) → y ≤ to → to ≤ y → Scored p s prev cur 0 y old new
     → Scored p s prev cur 0 to old new

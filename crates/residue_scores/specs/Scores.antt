@@ -1,4 +1,4 @@
--- The two scores of a cell (document 01, "Scores and volume").
+-- To be believed: the two scores of a cell (document 01, "Scores and volume").
 use mathlib.Core.List.{List}
 use Prim.Native.Nat.{ℕ}
 use Rattle.geometry.specs.declared.Head.{Head}

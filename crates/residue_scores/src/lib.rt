@@ -4,12 +4,11 @@ use geometry::Kind;
 ghost use mathlib.Core.Path.{_≡_};
 ghost use Prim.Native.Nat.{_+_, _-_, _*_, _≤_, _<_};
 ghost use lib.ListN.{length, getD};
-ghost use Rattle.geometry.specs.Plate.{area};
 ghost use Rattle.window.specs.Windows.{windowMax};
 ghost use Rattle.window.specs.Places.{windowIn};
 ghost use Rattle.buffers.specs.Fill.{Filled};
-ghost use Rattle.buffers.specs.Margin.{Margin};
-ghost use Rattle.residue_scores.specs.Residues.{joinedScore, scoredAt, Scored};
+ghost use Rattle.buffers.specs.Runs.{Interior, Columns};
+ghost use Rattle.residue_scores.specs.Residues.{ScoreBuffers, ScoreStep, joinedScore, scoredAt, Scored};
 
 // The two scores of a cell: its largest residue, and the sum of its residues.
 pub enum Score {
@@ -38,8 +37,11 @@ fn residue_run(
     from: usize,
     to: usize,
 )
-    requires { ⌜ (width + 1 ≤ from) × (from ≤ to) × (to + width + 1 ≤ length (now cur)) × (to ≤ length (now prev)) × (to ≤ length (now out)) ⌝ }
-    ensures { λ _. ⌜ Filled (λ n. joinedScore score (getD (now (out .entry)) n 0) (getD (now (prev .entry)) n 0 - windowMax kind (windowIn (now (cur .entry)) width n))) from to (now (out .entry)) (now (out .exit)) ⌝ }
+    requires { ⌜ Interior width from to (now cur) × (to ≤ length (now prev)) × (to ≤ length (now out)) ⌝ }
+    ensures { λ _. ⌜ Filled
+        (λ n. joinedScore score (getD (now (out .entry)) n 0)
+        (getD (now (prev .entry)) n 0 - windowMax kind (windowIn (now (cur .entry)) width n)))
+        from to (now (out .entry)) (now (out .exit)) ⌝ }
 {
     let mut n = from;
     while n < to {
@@ -63,8 +65,9 @@ fn residue_cells(
     from: u16,
     to: u16,
 )
-    requires { ⌜ (from ≤ to) × (to ≤ head .width) × (row < head .height) × (area head ≤ length (now prev)) × (area head ≤ length (now out)) ⌝ }
-    ensures { λ _. ⌜ Filled (scoredAt head score (now (prev .entry)) (now (cur .entry)) (now (out .entry)) row) (row * head .width + from) (row * head .width + to) (now (out .entry)) (now (out .exit)) ⌝ }
+    requires { ⌜ Columns head row from to × ScoreBuffers head (now prev) (now cur) (now out) ⌝ }
+    ensures { λ _. ⌜ Filled (scoredAt head score (now (prev .entry)) (now (cur .entry)) (now (out .entry)) row)
+        (row * head .width + from) (row * head .width + to) (now (out .entry)) (now (out .exit)) ⌝ }
 {
     let kind = head.kind;
     let start = (row as usize) * (head.width as usize);
@@ -82,21 +85,13 @@ fn residue_cells(
 
 // Residues of one row: those of its ends by their windows, the others in one run.
 fn residue_row(head: Head, score: Score, prev: &[u8], cur: &[u8], out: &mut [u8], row: u16)
-    requires { ⌜ (row < head .height) × (area head ≤ length (now prev)) × (area head ≤ length (now cur)) × (area head ≤ length (now out)) ⌝ }
-    ensures { λ _. ⌜ Filled (scoredAt head score (now (prev .entry)) (now (cur .entry)) (now (out .entry)) row) (row * head .width) (row * head .width + head .width) (now (out .entry)) (now (out .exit)) ⌝ }
+    requires { ⌜ (row < head .height) × ScoreBuffers head (now prev) (now cur) (now out) ⌝ }
+    ensures { λ _. ⌜ Filled (scoredAt head score (now (prev .entry)) (now (cur .entry)) (now (out .entry)) row)
+        (row * head .width) (row * head .width + head .width) (now (out .entry)) (now (out .exit)) ⌝ }
 {
     let kind = head.kind;
     let width = head.width;
-    let height = head.height;
-    if row == 0 {
-        residue_cells(head, score, prev, cur, out, row, 0, width);
-        return;
-    }
-    if height - 1 <= row {
-        residue_cells(head, score, prev, cur, out, row, 0, width);
-        return;
-    }
-    if width < 3 {
+    if !window::is_inner(head, row) {
         residue_cells(head, score, prev, cur, out, row, 0, width);
         return;
     }
@@ -117,8 +112,9 @@ fn residue_row(head: Head, score: Score, prev: &[u8], cur: &[u8], out: &mut [u8]
 
 // Residues of all rows, one after the other.
 fn residue_first(head: Head, score: Score, prev: &[u8], cur: &[u8], out: &mut [u8])
-    requires { ⌜ (area head ≤ length (now prev)) × (area head ≤ length (now cur)) × (area head ≤ length (now out)) ⌝ }
-    ensures { λ _. ⌜ Scored head score (now (prev .entry)) (now (cur .entry)) 0 (head .height) (now (out .entry)) (now (out .exit)) ⌝ }
+    requires { ⌜ ScoreBuffers head (now prev) (now cur) (now out) ⌝ }
+    ensures { λ _. ⌜ Scored head score (now (prev .entry)) (now (cur .entry)) 0 (head .height)
+        (now (out .entry)) (now (out .exit)) ⌝ }
 {
     let height = head.height;
     let mut row = 0;
@@ -130,8 +126,9 @@ fn residue_first(head: Head, score: Score, prev: &[u8], cur: &[u8], out: &mut [u
 
 // Residues of a map that is 0 within k of the border: the rows that are left, in one run.
 fn residue_next(head: Head, score: Score, k: usize, prev: &[u8], cur: &[u8], out: &mut [u8])
-    requires { ⌜ (1 ≤ k) × (k < 65536) × (area head ≤ length (now prev)) × (area head ≤ length (now cur)) × (area head ≤ length (now out)) × Margin head k (now prev) ⌝ }
-    ensures { λ _. ⌜ Scored head score (now (prev .entry)) (now (cur .entry)) 0 (head .height) (now (out .entry)) (now (out .exit)) ⌝ }
+    requires { ⌜ ScoreStep head k k (now prev) (now cur) (now out) ⌝ }
+    ensures { λ _. ⌜ Scored head score (now (prev .entry)) (now (cur .entry)) 0 (head .height)
+        (now (out .entry)) (now (out .exit)) ⌝ }
 {
     let kind = head.kind;
     let width = head.width as usize;
@@ -156,8 +153,9 @@ fn residue_next(head: Head, score: Score, k: usize, prev: &[u8], cur: &[u8], out
 
 // Residue k of erosions k - 1 and k, joined to a score.
 pub fn residue_step(head: Head, score: Score, k: usize, prev: &[u8], cur: &[u8], out: &mut [u8])
-    requires { ⌜ (1 ≤ k) × (k < 65536) × (area head ≤ length (now prev)) × (area head ≤ length (now cur)) × (area head ≤ length (now out)) × Margin head (k - 1) (now prev) ⌝ }
-    ensures { λ _. ⌜ Scored head score (now (prev .entry)) (now (cur .entry)) 0 (head .height) (now (out .entry)) (now (out .exit)) ⌝ }
+    requires { ⌜ ScoreStep head k (k - 1) (now prev) (now cur) (now out) ⌝ }
+    ensures { λ _. ⌜ Scored head score (now (prev .entry)) (now (cur .entry)) 0 (head .height)
+        (now (out .entry)) (now (out .exit)) ⌝ }
 {
     if k == 1 {
         residue_first(head, score, prev, cur, out);

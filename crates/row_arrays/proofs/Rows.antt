@@ -14,8 +14,21 @@ use Rattle.geometry.specs.Plane.{gap}
 use Rattle.buffers.specs.Fill.{Filled}
 use Rattle.buffers.proofs.Fill.{filled-as}
 use Rattle.row_arrays.specs.declared.Seeds.the-variants.{Numbers}
-use Rattle.row_arrays.specs.Start.{seed}
-use Rattle.row_arrays.specs.Rows.{margin, rowPlaces, Margins, Row, propagatedAt, Line, Widened, joinedRow, Merged}
+use Rattle.refusal.specs.Refusals.{largestSide}
+use Rattle.row_arrays.specs.Start.{wallSeed, seed}
+use Rattle.row_arrays.specs.Rows.{margin, rowPlaces, rowReach, Margins, Row, propagatedAt, Line, Widened, joinedRow, Merged}
+
+-- ---- the numbers of row arrays
+
+-- What they must be on plates of the largest side: an array holds a row with a step to either side, the steps reach past every column, and
+-- a wall's number, less a distance on the plate, is left above 0. Plates with larger sides will have to change it.
+pub record RowFits : Type 0 where
+  pub held : margin + largestSide + margin ≤ rowPlaces
+  pub reached : largestSide ≤ rowReach
+  pub above : largestSide < wallSeed
+
+pub row-fits : RowFits
+row-fits = record { held = omega arith; reached = omega arith; above = omega arith }
 
 -- ---- margins
 
@@ -177,7 +190,7 @@ module _ (q : ℕ → ℕ) (w s : ℕ) (src dst dst′ : List ℕ) (l : Line q w
 
 -- two steps, to the spare row and back
 pub widened-twice : (w s : ℕ) (row row′ spare spare′ : List ℕ) → Margins w row → Margins w spare
-    → Filled (propagatedAt row s) margin (margin + w) spare spare′ → Filled (propagatedAt spare′ (2 * s)) margin (margin + w) row row′ → s ≤ 64
+    → Filled (propagatedAt row s) margin (margin + w) spare spare′ → Filled (propagatedAt spare′ (2 * s)) margin (margin + w) row row′ → 2 * s ≤ margin
     → Widened w s (4 * s) row row′ spare′
 widened-twice w s row row′ spare spare′ m n h g k =
     record {

@@ -4,7 +4,6 @@ use mathlib.Core.Bool.{Bool, true, false, cond}
 use mathlib.Core.List.{List}
 use Prim.Native.Nat.{ℕ, _+_, _*_, _-_, _≤_, _<_, max}
 use native.Mathlib.Omega.{arith}
-use native.Mathlib.Nat.{suc-mul, mul-le-mul-right}
 use borrow.Author.Tests.{eqb-true, eqb-false}
 use lib.Dec.{eqb}
 use lib.ListN.{length, getD, set, length-set}
@@ -18,10 +17,6 @@ use Rattle.row_arrays.specs.declared.Seeds.{Seeds}
 use Rattle.row_arrays.specs.Rows.{margin, rowPlaces, Margins, Row}
 use Rattle.row_arrays.specs.Start.{seed, onBorder, start}
 use Rattle.refusal.specs.Sides.{Sides}
-
--- a row ends within its map
-pub row-end : (w y h : ℕ) → y < h → y * w + w ≤ h * w
-row-end w y h l = omega (arith, mul-le-mul-right w l, suc-mul y w)
 
 -- a number raised to e, all others as they were
 raised : (l : List ℕ) (i n v e : ℕ) (b : Bool) → i < length l → v ≡ max (getD l i 0) e → (b ≡ true → n ≡ i) → (b ≡ false → n ≡ i → ⊥)

@@ -1,4 +1,4 @@
--- A row of cells held in an array, column x at place margin + x, and what the passes along it and from the row beside leave.
+-- Serves proofs: a row of cells held in an array, column x at place margin + x, and what the passes along it and from the row beside leave.
 use mathlib.Core.Path.{_≡_}
 use mathlib.Core.Logic.{_⊎_}
 use mathlib.Core.List.{List}
@@ -16,6 +16,10 @@ rowPlaces = 512
 
 abbrev pub margin : ℕ
 margin = 128
+
+-- what the steps along a row reach: the columns that are less than this apart
+abbrev pub rowReach : ℕ
+rowReach = 256
 
 -- 0 at all places but those of w columns
 pub record Margins (w : ℕ) (row : List ℕ) : Type 0 where

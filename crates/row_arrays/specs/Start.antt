@@ -1,4 +1,5 @@
--- The numbers that a plate's rows start from, before they spread: seeds of a map, and what the cells off the plate bring to its border.
+-- Serves proofs: the numbers that a plate's rows start from, before they propagate: seeds of a map, and what the cells off the plate bring
+-- to its border.
 use mathlib.Core.Bool.{Bool, true, cond}
 use mathlib.Core.List.{List}
 use Prim.Native.Nat.{ℕ, _+_, _-_, max}
@@ -9,9 +10,13 @@ use Rattle.geometry.specs.Plate.{at}
 use Rattle.row_arrays.specs.declared.Seeds.{Seeds}
 use Rattle.row_arrays.specs.declared.Seeds.the-variants.{Walls, Numbers}
 
--- a cell's own number at the start: 255 at a wall, or the map's own
+-- the number of a wall, from which distances are taken off
+abbrev pub wallSeed : ℕ
+wallSeed = 255
+
+-- a cell's own number at the start: that of a wall, or the map's own
 abbrev pub seed : Seeds → ℕ → ℕ
-seed (Walls t) n = cond (ltb n t) 255 0
+seed (Walls t) n = cond (ltb n t) wallSeed 0
 seed Numbers n = n
 
 abbrev pub onBorder : Head → ℕ → ℕ → Bool

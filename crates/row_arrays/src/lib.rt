@@ -1,4 +1,4 @@
-// Rows of a plate in arrays: loaded from a map, spread along themselves, joined with the row beside, stored.
+// Rows of a plate in arrays: loaded from a map, propagated along themselves, joined with the row beside, stored.
 use geometry::Head;
 use geometry::Kind;
 ghost use mathlib.Core.Path.{_≡_};
@@ -6,18 +6,20 @@ ghost use mathlib.Core.Bool.{cond};
 ghost use Prim.Native.Nat.{_+_, _-_, _*_, _≤_, _<_, max};
 ghost use lib.Dec.{eqb};
 ghost use lib.ListN.{length, getD};
-ghost use Rattle.geometry.specs.Plate.{area};
 ghost use Rattle.buffers.specs.Fill.{Filled};
 ghost use Rattle.refusal.specs.Refusals.{largestSide};
-ghost use Rattle.row_arrays.specs.Rows.{margin, rowPlaces, Margins, Row, propagatedAt, Widened, highestBeside, joinedRow, Merged};
+ghost use Rattle.row_arrays.specs.Rows.{margin, rowPlaces, rowReach, Row, propagatedAt, Widened, highestBeside, joinedRow, Merged};
 ghost use Rattle.row_arrays.specs.Start.{seed, start};
-ghost use Rattle.refusal.specs.Sides.{Sides};
+ghost use Rattle.row_arrays.specs.Asked.{Loadable, RowPair, Mergeable};
 
-// What the transform starts from: 255 at every cell below a level, those off the plate too, or a map's own numbers.
+// What the transform starts from: a wall at every cell below a level, those off the plate too, or a map's own numbers.
 pub enum Seeds {
     Walls(u8),
     Numbers,
 }
+
+// The number of a wall, from which distances are taken off.
+pub const WALL: u8 = 255;
 
 // A row of cells is held in an array: column x at place MARGIN + x, zeros at all other places.
 pub const MARGIN: usize = 128;
@@ -28,7 +30,7 @@ fn seed_of(seeds: Seeds, n: u8) -> u8
     ensures { λ r. ⌜ r ≡ seed seeds n ⌝ }
 {
     match seeds {
-        Seeds::Walls(level) => if n < level { 255 } else { 0 },
+        Seeds::Walls(level) => if n < level { WALL } else { 0 },
         Seeds::Numbers => n,
     }
 }
@@ -45,7 +47,8 @@ pub fn load_run(
     row: &mut [u8; ROW_PLACES],
 )
     requires { ⌜ (from + width ≤ length (now map)) × (width ≤ largestSide) × (length (now row) ≡ rowPlaces) ⌝ }
-    ensures { λ _. ⌜ Filled (λ n. max (seed seeds (getD (now (map .entry)) (from + (n - margin)) 0)) floor) margin (margin + width) (now (row .entry)) (now (row .exit)) ⌝ }
+    ensures { λ _. ⌜ Filled (λ n. max (seed seeds (getD (now (map .entry)) (from + (n - margin)) 0)) floor) margin (margin + width)
+        (now (row .entry)) (now (row .exit)) ⌝ }
 {
     let mut n = MARGIN;
     while n < MARGIN + width {
@@ -70,7 +73,7 @@ fn floor_of(y: usize, height: usize, edge: u8) -> u8
 
 // The numbers that a row of the plate starts from.
 pub fn load_row(head: Head, seeds: Seeds, map: &[u8], y: usize, row: &mut [u8; ROW_PLACES])
-    requires { ⌜ Sides head × (area head ≤ length (now map)) × (y < head .height) × Margins (head .width) (now row) ⌝ }
+    requires { ⌜ Loadable head (now map) y (now row) ⌝ }
     ensures { λ _. ⌜ Row (λ x. start head seeds (now (map .entry)) x y) (head .width) (now (row .exit)) ⌝ }
 {
     let width = head.width as usize;
@@ -109,7 +112,7 @@ fn propagate_twice(
     step: usize,
     width: usize,
 )
-    requires { ⌜ (step ≤ 64) × (width ≤ largestSide) × Margins width (now row) × Margins width (now spare) ⌝ }
+    requires { ⌜ (2 * step ≤ margin) × RowPair width (now row) (now spare) ⌝ }
     ensures { λ _. ⌜ Widened width step (4 * step) (now (row .entry)) (now (row .exit)) (now (spare .exit)) ⌝ }
 {
     propagate_step(row, spare, step, width);
@@ -118,8 +121,8 @@ fn propagate_twice(
 
 // Along a row: the highest number less the distance, after steps 1, 2, 4 up to 128.
 pub fn propagate_row(row: &mut [u8; ROW_PLACES], spare: &mut [u8; ROW_PLACES], width: usize)
-    requires { ⌜ (width ≤ largestSide) × Margins width (now row) × Margins width (now spare) ⌝ }
-    ensures { λ _. ⌜ Widened width 1 256 (now (row .entry)) (now (row .exit)) (now (spare .exit)) ⌝ }
+    requires { ⌜ RowPair width (now row) (now spare) ⌝ }
+    ensures { λ _. ⌜ Widened width 1 rowReach (now (row .entry)) (now (row .exit)) (now (spare .exit)) ⌝ }
 {
     propagate_twice(row, spare, 1, width);
     propagate_twice(row, spare, 4, width);
@@ -173,8 +176,9 @@ pub fn merge_row(
     row: &mut [u8; ROW_PLACES],
     out: &mut [u8],
 )
-    requires { ⌜ (from + width ≤ length (now out)) × (width ≤ largestSide) × (length (now beside) ≡ rowPlaces) × (length (now row) ≡ rowPlaces) ⌝ }
-    ensures { λ _. ⌜ Merged kind width from (now (beside .entry)) (now (beside .exit)) (now (row .entry)) (now (row .exit)) (now (out .entry)) (now (out .exit)) ⌝ }
+    requires { ⌜ Mergeable width from (now beside) (now row) (now out) ⌝ }
+    ensures { λ _. ⌜ Merged kind width from (now (beside .entry)) (now (beside .exit)) (now (row .entry)) (now (row .exit))
+        (now (out .entry)) (now (out .exit)) ⌝ }
 {
     join_row(kind, beside, row, width);
     store_row(row, out, from, width);

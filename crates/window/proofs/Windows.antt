@@ -1,6 +1,6 @@
 -- Windows: a map's number before a column and a row by tests, the nine numbers about a cell are its window,
 -- and a window's lowest and highest are those of the map among the cell and its neighbours.
-use mathlib.Core.Path.{_≡_, refl, ap}
+use mathlib.Core.Path.{_≡_, refl, ap, ap₂, _∙_}
 use mathlib.Core.Bool.{cond}
 use mathlib.Core.List.{List, [], _∷_, map}
 use Prim.Native.Nat.{ℕ, zero, suc, _+_, _*_, _-_, _≤_, _<_, min, max}
@@ -89,6 +89,16 @@ module _ (p : Head) (m : List ℕ) where
     pub window-max-near : windowMax (p .kind) (windowOf p m c) ≡ highest (at p m c) (map (at p m) (neighbours (p .kind) c))
     window-max-near = ap (highest (at p m c)) (around-is (p .kind))
 
+  -- so are those of the nine bytes about a cell that does not touch the edge
+  module _ (x y : ℕ) (a : 1 ≤ x) (b : x + 1 < p .width) (c : 1 ≤ y) (d : y + 1 < p .height) where
+    pub interior-min-near : windowMin (p .kind) (windowIn m (p .width) (y * p .width + x))
+        ≡ lowest (at p m (cell x y)) (map (at p m) (neighbours (p .kind) (cell x y)))
+    interior-min-near = ap (windowMin (p .kind)) (window-interior x y a b c d) ∙ window-min-near (cell x y)
+
+    pub interior-max-near : windowMax (p .kind) (windowIn m (p .width) (y * p .width + x))
+        ≡ highest (at p m (cell x y)) (map (at p m) (neighbours (p .kind) (cell x y)))
+    interior-max-near = ap (windowMax (p .kind)) (window-interior x y a b c d) ∙ window-max-near (cell x y)
+
 -- f may be taken of numbers in any order and grouping
 pub record AnyOrder (f : ℕ → ℕ → ℕ) : Type 0 where
   pub swap : (a b : ℕ) → f a b ≡ f b a
@@ -99,6 +109,14 @@ of-min = omega arith
 
 pub of-max : AnyOrder max
 of-max = omega arith
+
+-- what the calls of an operation on a window's numbers come to
+module _ (f : ℕ → ℕ → ℕ) {n s w e : ℕ} where
+  pub corners-of : {r t v : ℕ} → v ≡ f r t → r ≡ f n s → t ≡ f w e → v ≡ f (f n s) (f w e)
+  corners-of a b c = a ∙ ap₂ f b c
+
+  pub cross-of : {m r t u v : ℕ} → v ≡ f r u → r ≡ f n s → u ≡ f t m → t ≡ f w e → v ≡ f (f n s) (f (f w e) m)
+  cross-of {m} a b c d = a ∙ ap₂ f b (c ∙ ap (λ (i : ℕ). f i m) d)
 
 -- a window's numbers as the code compares them, in the definition's order: the middle m, the sides n w e s, the corners a b d g
 module _ {f : ℕ → ℕ → ℕ} (o : AnyOrder f) where

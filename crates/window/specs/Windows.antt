@@ -1,4 +1,4 @@
--- A cell's window: "three rows of three depths, the cell in the middle", "off-plate cells 0".
+-- To be believed: a cell's window: "three rows of three depths, the cell in the middle", "off-plate cells 0".
 use mathlib.Core.List.{List, [], _∷_}
 use Prim.Native.Nat.{ℕ}
 use lib.ListN.{getD}

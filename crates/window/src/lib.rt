@@ -2,13 +2,14 @@
 use geometry::Head;
 use geometry::Kind;
 ghost use mathlib.Core.Path.{_≡_};
+ghost use mathlib.Core.Bool.{true};
 ghost use mathlib.Core.List.{[], _∷_};
 ghost use Prim.Native.Nat.{_+_, _-_, _<_, _≤_, min, max};
 ghost use lib.ListN.{length, getD};
 ghost use Rattle.geometry.specs.Plane.{cell};
 ghost use Rattle.geometry.specs.Plate.{at};
-ghost use Rattle.window.specs.Windows.{windowOf, windowMin, windowMax, inWindow};
-ghost use Rattle.window.specs.Places.{before, windowIn};
+ghost use Rattle.window.specs.Windows.{windowOf, windowMin, windowMax};
+ghost use Rattle.window.specs.Places.{largestWord, before, windowIn, Inner, crossOf, cornersOf};
 
 pub fn lower(a: u8, b: u8) -> u8
     ensures { λ r. ⌜ r ≡ min a b ⌝ }
@@ -31,7 +32,7 @@ pub fn less(a: u8, b: u8) -> u8
 
 // The lowest of the middle and the four that share a side with it.
 fn cross_min(win: [[u8; 3]; 3]) -> u8
-    ensures { λ r. ⌜ r ≡ min (min (inWindow win 0 1) (inWindow win 2 1)) (min (min (inWindow win 1 0) (inWindow win 1 2)) (inWindow win 1 1)) ⌝ }
+    ensures { λ r. ⌜ r ≡ crossOf min win ⌝ }
 {
     lower(
         lower(win[0][1], win[2][1]),
@@ -41,13 +42,14 @@ fn cross_min(win: [[u8; 3]; 3]) -> u8
 
 // The lowest of the four corners.
 fn corners_min(win: [[u8; 3]; 3]) -> u8
-    ensures { λ r. ⌜ r ≡ min (min (inWindow win 0 0) (inWindow win 0 2)) (min (inWindow win 2 0) (inWindow win 2 2)) ⌝ }
+    ensures { λ r. ⌜ r ≡ cornersOf min win ⌝ }
 {
     lower(lower(win[0][0], win[0][2]), lower(win[2][0], win[2][2]))
 }
 
+// The highest of the middle and the four that share a side with it.
 fn cross_max(win: [[u8; 3]; 3]) -> u8
-    ensures { λ r. ⌜ r ≡ max (max (inWindow win 0 1) (inWindow win 2 1)) (max (max (inWindow win 1 0) (inWindow win 1 2)) (inWindow win 1 1)) ⌝ }
+    ensures { λ r. ⌜ r ≡ crossOf max win ⌝ }
 {
     higher(
         higher(win[0][1], win[2][1]),
@@ -55,8 +57,9 @@ fn cross_max(win: [[u8; 3]; 3]) -> u8
     )
 }
 
+// The highest of the four corners.
 fn corners_max(win: [[u8; 3]; 3]) -> u8
-    ensures { λ r. ⌜ r ≡ max (max (inWindow win 0 0) (inWindow win 0 2)) (max (inWindow win 2 0) (inWindow win 2 2)) ⌝ }
+    ensures { λ r. ⌜ r ≡ cornersOf max win ⌝ }
 {
     higher(higher(win[0][0], win[0][2]), higher(win[2][0], win[2][2]))
 }
@@ -83,7 +86,7 @@ pub fn window_max(kind: Kind, win: [[u8; 3]; 3]) -> u8
 
 // A map's number at column i - 1 and row j - 1, 0 off the plate and past the end of the buffer.
 fn at_before(head: Head, map: &[u8], i: usize, j: usize) -> u8
-    requires { ⌜ (i ≤ 65537) × (j ≤ 65537) ⌝ }
+    requires { ⌜ (i ≤ largestWord + 2) × (j ≤ largestWord + 2) ⌝ }
     ensures { λ r. ⌜ r ≡ at head (now (map .entry)) (before i j) ⌝ }
 {
     let width = head.width as usize;
@@ -111,8 +114,9 @@ fn at_before(head: Head, map: &[u8], i: usize, j: usize) -> u8
 
 // Three numbers of a map side by side: columns i - 1, i and i + 1 of row j - 1, 0 off the plate.
 fn row_before(head: Head, map: &[u8], i: usize, j: usize) -> [u8; 3]
-    requires { ⌜ (i ≤ 65535) × (j ≤ 65537) ⌝ }
-    ensures { λ r. ⌜ r ≡ at head (now (map .entry)) (before i j) ∷ at head (now (map .entry)) (before (i + 1) j) ∷ at head (now (map .entry)) (before (i + 2) j) ∷ [] ⌝ }
+    requires { ⌜ (i ≤ largestWord) × (j ≤ largestWord + 2) ⌝ }
+    ensures { λ r. ⌜ r ≡ at head (now (map .entry)) (before i j) ∷ at head (now (map .entry)) (before (i + 1) j)
+        ∷ at head (now (map .entry)) (before (i + 2) j) ∷ [] ⌝ }
 {
     [
         at_before(head, map, i, j),
@@ -152,4 +156,18 @@ pub fn window_in(map: &[u8], width: usize, number: usize) -> [[u8; 3]; 3]
         row_in(map, number),
         row_in(map, number + width),
     ]
+}
+
+// Whether a row of the plate has cells that do not touch its edge: their windows can be read by place, those of its two ends cannot.
+pub fn is_inner(head: Head, row: u16) -> bool
+    requires { ⌜ row < head .height ⌝ }
+    ensures { λ r. ⌜ (r ≡ true → Inner head row) ⌝ }
+{
+    if row == 0 {
+        return false;
+    }
+    if head.height - 1 <= row {
+        return false;
+    }
+    2 < head.width
 }

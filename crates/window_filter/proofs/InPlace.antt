@@ -19,11 +19,11 @@ use Rattle.theory.proofs.Plate.{at-cell}
 use Rattle.buffers.specs.Fill.{Filled, Mapped}
 use Rattle.buffers.specs.Margin.{Margin}
 use Rattle.buffers.proofs.Fill.{row-under}
+use Rattle.buffers.proofs.Rooms.{row-room}
 use Rattle.row_arrays.specs.declared.Seeds.the-variants.{Numbers}
 use Rattle.row_arrays.specs.Rows.{margin, Margins, Row}
 use Rattle.row_arrays.specs.Start.{seed}
 use Rattle.row_arrays.proofs.Rows.{zeros, row-zeros, margins-filled, loaded-at}
-use Rattle.row_arrays.proofs.Start.{row-end}
 use Rattle.window_filter.specs.declared.Leaf.{Leaf}
 use Rattle.window_filter.specs.declared.Leaf.the-variants as v
 use Rattle.window_filter.specs.Filter.{windowRows, leaf, rowOf, FilteredRow}
@@ -32,7 +32,7 @@ use Rattle.window_filter.specs.Filter.{windowRows, leaf, rowOf, Filtered
 
 -- where a row's stretch between the edges lies
 pub between : (w e y h n : ℕ) → 2 * e < w → y < h → h * w ≤ n → (y * w + e + (w - 2 * e) ≤ n)
-between w e y h n a b c = omega (arith, row-end w y h b)
+between w e y h n a b c = omega (arith, row-room w y h n b c)
 
 module _ (p : Head) (e : ℕ) where
   abbrev w : ℕ
@@ -51,7 +51,7 @@ module _ (p : Head) (e : ℕ) where
   row-cleared m y row row′ a l h =
       record { margins = margins-filled _ inner row row′ a h; cells = λ x g. h .inside (margin + x) (omega arith) (omega arith) ∙ rw (le-ltb _ _ l) }
 
-  -- ---- what a map has outside the rows and columns that are swept
+  -- ---- what a map has outside the rows and columns that are filtered
 
   module _ (m : List ℕ) where
     -- off the plate a map is 0; on it by what is known

@@ -1,14 +1,18 @@
--- A pass over a map in place: three rows in arrays, what is made of a window, and what one row leaves.
+-- Serves proofs: a pass over a map in place: three rows in arrays, what is made of a window, what one row asks and leaves.
 use mathlib.Core.Bool.{cond}
 use mathlib.Core.List.{List, [], _∷_}
-use Prim.Native.Nat.{ℕ, _+_, _-_, _*_}
+use Prim.Native.Nat.{ℕ, _+_, _-_, _*_, _≤_, _<_}
 use lib.Dec.{leb, ltb}
-use lib.ListN.{getD}
+use lib.ListN.{length, getD}
 use Rattle.geometry.specs.declared.Kind.{Kind}
 use Rattle.geometry.specs.declared.Head.{Head}
 use Rattle.window.specs.Windows.{inWindow, windowMax}
+use Rattle.geometry.specs.Plate.{area}
+use Rattle.refusal.specs.Refusals.{largestSide}
+use Rattle.refusal.specs.Sides.{Sides}
 use Rattle.buffers.specs.Fill.{Filled}
-use Rattle.row_arrays.specs.Rows.{margin, Row}
+use Rattle.buffers.specs.Margin.{Margin}
+use Rattle.row_arrays.specs.Rows.{margin, Margins, Row}
 use Rattle.window_filter.specs.declared.Leaf.{Leaf}
 use Rattle.window_filter.specs.declared.Leaf.the-variants as v
 
@@ -33,7 +37,23 @@ leaf v.Highest kd win = windowMax kd win
 abbrev pub rowOf : Head → ℕ → List ℕ → ℕ → ℕ → ℕ
 rowOf p e m y x = cond (ltb (y + e) (p .height)) (getD m (y * p .width + e + x) 0) 0
 
+-- a map can be filtered between edges: with an edge, it is 0 one further than the edge from its border
+pub record Filterable (p : Head) (e : ℕ) (m : List ℕ) : Type 0 where
+  pub sides : Sides p
+  pub long : area p ≤ length m
+  pub edge : e ≤ largestSide
+  pub zeros : 1 ≤ e → Margin p (e + 1) m
+
+-- row y of a map, or the first row of the lower edge, can be read between edges into an array
+pub record Readable (p : Head) (e : ℕ) (m : List ℕ) (y : ℕ) (row : List ℕ) : Type 0 where
+  pub sides : Sides p
+  pub long : area p ≤ length m
+  pub some : 2 * e < p .width
+  pub here : y + e ≤ p .height
+  pub margins : Margins (p .width - 2 * e) row
+
 -- row y: what is made of its windows, between the edges, and the row below it as it was read
 pub record FilteredRow (p : Head) (lf : Leaf) (e y : ℕ) (above mid below′ map map′ : List ℕ) : Type 0 where
-  pub map-is : Filled (λ n. leaf lf (p .kind) (windowRows above mid below′ (margin + (n - (y * p .width + e))))) (y * p .width + e) (y * p .width + e + (p .width - 2 * e)) map map′
+  pub map-is : Filled (λ n. leaf lf (p .kind) (windowRows above mid below′ (margin + (n - (y * p .width + e))))) (y * p .width + e)
+      (y * p .width + e + (p .width - 2 * e)) map map′
   pub below-is : Row (rowOf p e map (y + 1)) (p .width - 2 * e) below′

@@ -7,14 +7,11 @@ use row_arrays::Seeds;
 ghost use mathlib.Core.Path.{_≡_};
 ghost use Prim.Native.Nat.{_+_, _-_, _*_, _≤_, _<_};
 ghost use lib.ListN.{length};
-ghost use Rattle.geometry.specs.Plate.{area};
 ghost use Rattle.window.specs.Windows.{windowOf};
 ghost use Rattle.refusal.specs.Refusals.{largestSide};
 ghost use Rattle.buffers.specs.Fill.{Filled, Mapped};
-ghost use Rattle.buffers.specs.Margin.{Margin};
-ghost use Rattle.row_arrays.specs.Rows.{margin, rowPlaces, Margins, Row};
-ghost use Rattle.refusal.specs.Sides.{Sides};
-ghost use Rattle.window_filter.specs.Filter.{windowRows, kept, leaf, rowOf, FilteredRow};
+ghost use Rattle.row_arrays.specs.Rows.{margin, rowPlaces, Row};
+ghost use Rattle.window_filter.specs.Filter.{windowRows, kept, leaf, rowOf, Filterable, Readable, FilteredRow};
 
 // What is made of a window: its middle number where none is larger, else 0; or its highest number.
 pub enum Leaf {
@@ -73,7 +70,9 @@ fn filter_run(
     count: usize,
 )
     requires { ⌜ (from + count ≤ length (now map)) × (count ≤ largestSide) ⌝ }
-    ensures { λ _. ⌜ Filled (λ n. leaf made kind (windowRows (now (above .entry)) (now (mid .entry)) (now (below .entry)) (margin + (n - from)))) from (from + count) (now (map .entry)) (now (map .exit)) ⌝ }
+    ensures { λ _. ⌜ Filled
+        (λ n. leaf made kind (windowRows (now (above .entry)) (now (mid .entry)) (now (below .entry)) (margin + (n - from))))
+        from (from + count) (now (map .entry)) (now (map .exit)) ⌝ }
 {
     let mut n = from;
     while n < from + count {
@@ -86,9 +85,9 @@ fn filter_run(
     }
 }
 
-// The columns of row y that are swept, into an array; zeros for the first row that is not.
+// The columns of row y that are filtered, into an array; zeros for the first row that is not.
 fn read_row(head: Head, edge: usize, map: &[u8], y: usize, row: &mut [u8; ROW_PLACES])
-    requires { ⌜ Sides head × (area head ≤ length (now map)) × (2 * edge < head .width) × (y + edge ≤ head .height) × Margins (head .width - 2 * edge) (now row) ⌝ }
+    requires { ⌜ Readable head edge (now map) y (now row) ⌝ }
     ensures { λ _. ⌜ Row (rowOf head edge (now (map .entry)) y) (head .width - 2 * edge) (now (row .exit)) ⌝ }
 {
     let width = head.width as usize;
@@ -100,7 +99,7 @@ fn read_row(head: Head, edge: usize, map: &[u8], y: usize, row: &mut [u8; ROW_PL
     }
 }
 
-// Sweeps row y between the edges, after the row below it is read.
+// Filters row y between the edges, after the row below it is read.
 fn filter_row(
     made: Leaf,
     head: Head,
@@ -111,8 +110,9 @@ fn filter_row(
     below: &mut [u8; ROW_PLACES],
     map: &mut [u8],
 )
-    requires { ⌜ Sides head × (area head ≤ length (now map)) × (2 * edge < head .width) × (y + edge < head .height) × Margins (head .width - 2 * edge) (now below) ⌝ }
-    ensures { λ _. ⌜ FilteredRow head made edge y (now (above .entry)) (now (mid .entry)) (now (below .exit)) (now (map .entry)) (now (map .exit)) ⌝ }
+    requires { ⌜ Readable head edge (now map) (y + 1) (now below) ⌝ }
+    ensures { λ _. ⌜ FilteredRow head made edge y (now (above .entry)) (now (mid .entry)) (now (below .exit))
+        (now (map .entry)) (now (map .exit)) ⌝ }
 {
     let kind = head.kind;
     let width = head.width as usize;
@@ -126,8 +126,9 @@ fn filter_row(
 // from its border: only the cells between the edges are read and written, since all others stay 0.
 // Three rows a turn, so that the arrays change roles and no row is copied.
 pub fn filter_map(head: Head, made: Leaf, edge: usize, map: &mut [u8])
-    requires { ⌜ Sides head × (area head ≤ length (now map)) × (edge ≤ largestSide) × (1 ≤ edge → Margin head (edge + 1) (now map)) ⌝ }
-    ensures { λ _. ⌜ Mapped head (λ c. leaf made (head .kind) (windowOf head (now (map .entry)) c)) (now (map .entry)) (now (map .exit)) ⌝ }
+    requires { ⌜ Filterable head edge (now map) ⌝ }
+    ensures { λ _. ⌜ Mapped head (λ c. leaf made (head .kind) (windowOf head (now (map .entry)) c))
+        (now (map .entry)) (now (map .exit)) ⌝ }
 {
     let width = head.width as usize;
     let height = head.height as usize;

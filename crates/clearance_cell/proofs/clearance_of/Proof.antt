@@ -32,7 +32,7 @@ head-of-requires : tie.Need-head-of-requires
 head-of-requires c κs = search needs
 
 nearest-wall-requires : tie.Need-nearest-wall-requires
-nearest-wall-requires c κs = let r = ready c in (r .level, r .left, r .upper, r .long)
+nearest-wall-requires c κs = ready c .asked
 
 cast-t17 : tie.Need-cast-t17
 cast-t17 c = omega (arith, c .nearest-wall .ensures, ready (c .before) .fits)

@@ -11,8 +11,9 @@ use Rattle.clearance_maps.proofs.axis_map.Statement.{statement}
 use Rattle.clearance_maps.proofs.axis_map.Tie as tie
 
 -- an accepted call of `clearance_map` wrote the clearances
-mapped : (c : tie.After-head-of) → let at-clearance-map = c .before .before .before .before .before in let given =
-    at-clearance-map .before .before .before .before .args in
+mapped : (c : tie.After-head-of) → let at-clearance-map = c .before .before .before .before .before in
+    let at-start = at-clearance-map .before .before .before .before in
+    let given = at-start .args in
     Mapped (c .head-of .result) (clearance (c .head-of .result) (given .relief .now) (given .level)) (given .out .now)
     (at-clearance-map .clearance-map .last .1 .1 .1 .1 .1 .0)
 mapped c =
@@ -42,7 +43,12 @@ filter-map-requires c κs =
     accepted-plates (s .kind) (s .width) (s .height) (eqb (s .level) 0) (s .relief .now) (s .out .now)
     (sym (at-clearance-map .clearance-map .ensures .answer) ∙ c .before .before .enum-told .given .1) _
     (c .before .head-of .ensures) in
-    (g .sides, omega (arith, g .room, mapped (c .before) .same), omega arith, λ h. absurd (omega arith))
+    record {
+      sides = g .sides;
+      long = omega (arith, g .room, mapped (c .before) .same);
+      edge = omega arith;
+      zeros = λ h. absurd (omega arith);
+    }
 
 enum-known-verdict : tie.Need-enum-known-verdict
 enum-known-verdict c = search needs

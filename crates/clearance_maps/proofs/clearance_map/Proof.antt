@@ -3,8 +3,9 @@ use mathlib.Core.Path.{_≡_, refl, sym, _∙_}
 use borrow.Author.Needs.{needs}
 use lib.Dec.{eqb}
 use Rattle.theory.specs.Levels.{clearance}
+use Rattle.refusal.proofs.Refusals.{answered-refused}
 use Rattle.clearance_maps.specs.Calls.{levelVerdict}
-use Rattle.clearance_maps.proofs.Calls.{by-shorter, accepted-plates, accepted-level, answered-refused, answered-accepted}
+use Rattle.clearance_maps.proofs.Calls.{by-shorter, accepted-plates, accepted-level, answered-accepted}
 use Rattle.clearance_maps.proofs.clearance_map.Statement.{statement}
 use Rattle.clearance_maps.proofs.clearance_map.Tie as tie
 
@@ -58,10 +59,7 @@ returns c =
 
 returns-2 : tie.Need-returns-2
 returns-2 c =
-    let at-start = c .before .before .before .before .before .before .before in
-    let s = at-start .args in
-    answered-refused (s .kind) (s .width) (s .height) (eqb (s .level) 0) (s .relief .now) (s .out .now) _ _
-    (sym (said (c .before .before .before)) ∙ c .before .verdict .given .1)
+    answered-refused _ _ _ _ (sym (said (c .before .before .before)) ∙ c .before .verdict .given .1)
 
 pub clearance-map-spec : {M : Type 1} → statement M
 clearance-map-spec =

@@ -3,8 +3,9 @@ use mathlib.Core.Path.{_≡_, sym, _∙_}
 use mathlib.Core.Bool.{false}
 use borrow.Author.Needs.{needs}
 use Rattle.theory.specs.Levels.{reconstructed}
+use Rattle.refusal.proofs.Refusals.{answered-refused}
 use Rattle.clearance_maps.specs.Calls.{reconstructVerdict}
-use Rattle.clearance_maps.proofs.Calls.{by-shorter, accepted-plates, answered-refused, answered-accepted}
+use Rattle.clearance_maps.proofs.Calls.{by-shorter, accepted-plates, answered-accepted}
 use Rattle.clearance_maps.proofs.reconstruct.Statement.{statement}
 use Rattle.clearance_maps.proofs.reconstruct.Tie as tie
 
@@ -57,10 +58,7 @@ returns c =
 
 returns-2 : tie.Need-returns-2
 returns-2 c =
-    let at-start = c .before .before .before .before .before .before .before in
-    let s = at-start .args in
-    answered-refused (s .kind) (s .width) (s .height) false (s .map .now) (s .out .now) _ _
-    (sym (said (c .before .before .before)) ∙ c .before .verdict .given .1)
+    answered-refused _ _ _ _ (sym (said (c .before .before .before)) ∙ c .before .verdict .given .1)
 
 pub reconstruct-spec : {M : Type 1} → statement M
 reconstruct-spec =

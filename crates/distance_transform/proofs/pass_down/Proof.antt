@@ -25,13 +25,14 @@ row-down-requires c κs =
     let at-loop = at-loop-test .before in
     let at-start = at-loop .before .before .before .before in
     let d = at-loop .loop .inv in
-    let g = at-start .pre in (
-      record { sides = g .sides; read = g .read; room = omega (arith, g .room, d .kept .same) },
-      at-loop-test .loop-test .taken,
-      d .row-margins,
-      d .spare-margins,
-      d .array,
-    )
+    let g = at-start .pre in
+    record {
+      plates = record { sides = g .sides; read = g .read; room = omega (arith, g .room, d .kept .same) };
+      here = at-loop-test .loop-test .taken;
+      row-margins = d .row-margins;
+      spare-margins = d .spare-margins;
+      array = d .array;
+    }
 
 add-y : tie.Need-add-y Inv-loop μ-loop
 add-y c = omega arith

@@ -1,9 +1,10 @@
 -- `pass_up` does so for every row, from the last on: the invariant is `UpTo` the row reached.
 use mathlib.Core.Path.{refl}
-use Prim.Native.Nat.{_-_}
+use Prim.Native.Nat.{_+_, _-_, _*_, _≤_}
+use lib.ListN.{length}
 use native.Mathlib.Omega.{arith}
 use borrow.Author.Needs.{needs}
-use Rattle.row_arrays.proofs.Start.{row-end}
+use Rattle.buffers.proofs.Rooms.{row-room}
 use Rattle.distance_transform.proofs.Passes.{UpTo, up-none, up-more, up-all}
 use Rattle.distance_transform.proofs.pass_up.Statement.{statement}
 use Rattle.distance_transform.proofs.pass_up.Tie as tie
@@ -13,6 +14,12 @@ Inv-loop head out₀ row₀ below₀ width y₀ out row below y = UpTo head y ou
 
 abbrev μ-loop : tie.MeasureT-loop
 μ-loop head out₀ row₀ below₀ width y₀ out row below y = y
+
+-- the last row lies in the map
+last-row : (s : tie.Start Inv-loop μ-loop)
+    → (s .args .head .height - 1) * s .args .head .width + s .args .head .width ≤ length (s .args .out .now)
+last-row s =
+    row-room (s .args .head .width) (s .args .head .height - 1) (s .args .head .height) _ (omega (arith, s .pre .0 .tall)) (s .pre .1)
 
 cast-width : tie.Need-cast-width Inv-loop μ-loop
 cast-width c = search needs
@@ -26,20 +33,12 @@ sub-y c = let at-start = c .before .before .before in at-start .pre .0 .tall
 mul-load-run : tie.Need-mul-load-run Inv-loop μ-loop
 mul-load-run c =
     let s = c .before .before .before .before in
-    omega (
-      arith,
-      s .pre,
-      row-end (s .args .head .width) (s .args .head .height - 1) (s .args .head .height) (omega (arith, s .pre .0 .tall)),
-    )
+    omega (arith, last-row s)
 
 load-run-requires : tie.Need-load-run-requires Inv-loop μ-loop
 load-run-requires c κs =
     let s = c .before .before .before .before .before in (
-      omega (
-        arith,
-        s .pre,
-        row-end (s .args .head .width) (s .args .head .height - 1) (s .args .head .height) (omega (arith, s .pre .0 .tall)),
-      ),
+      last-row s,
       s .pre .0 .narrow,
       refl,
     )
@@ -58,7 +57,13 @@ row-up-requires c κs =
     let at-start = at-loop .before .before .before .before .before .before .before in
     let d = at-loop .loop .inv in
     let g = at-start .pre in
-    (g .0, omega (arith, g .1, d .kept .same), omega (arith, d .within), d .row-margins, d .below-margins)
+    record {
+      sides = g .0;
+      room = omega (arith, g .1, d .kept .same);
+      here = omega (arith, d .within);
+      row-margins = d .row-margins;
+      below-margins = d .below-margins;
+    }
 
 loop-less : tie.Need-loop-less Inv-loop μ-loop
 loop-less c =

@@ -1,10 +1,16 @@
--- `row_down` spreads a row over the rows up to it: along itself, then from the row above.
+-- `row_down` propagates a row over the rows up to it: along itself, then from the row above.
+use Prim.Native.Nat.{_+_, _*_, _≤_}
 use native.Mathlib.Omega.{arith}
+use lib.ListN.{length}
 use borrow.Author.Needs.{needs}
-use Rattle.row_arrays.proofs.Start.{row-end}
+use Rattle.buffers.proofs.Rooms.{row-room}
 use Rattle.distance_transform.proofs.Passes.{row-down}
 use Rattle.distance_transform.proofs.row_down.Statement.{statement}
 use Rattle.distance_transform.proofs.row_down.Tie as tie
+
+-- the row lies in the map that is written
+row-within : (s : tie.Start) → s .args .y * s .args .head .width + s .args .head .width ≤ length (s .args .out .now)
+row-within s = row-room (s .args .head .width) (s .args .y) (s .args .head .height) _ (s .pre .here) (s .pre .plates .room)
 
 cast-width : tie.Need-cast-width
 cast-width c = search needs
@@ -18,17 +24,18 @@ propagate-row-requires c κs = search needs
 mul-merge-row : tie.Need-mul-merge-row
 mul-merge-row c =
     let s = c .before .before .before .before .before .before .before .before in
-    omega (arith, s .pre .0, row-end (s .args .head .width) (s .args .y) (s .args .head .height) (s .pre .1))
+    omega (arith, row-within s)
 
 merge-row-requires : tie.Need-merge-row-requires
 merge-row-requires c κs =
     let at-propagate-row = c .before .before .before in
-    let s = at-propagate-row .before .before .before .before .before .before .before .before in (
-      omega (arith, s .pre .0, row-end (s .args .head .width) (s .args .y) (s .args .head .height) (s .pre .1)),
-      s .pre .0 .sides .narrow,
-      s .pre .4 .margins .size,
-      at-propagate-row .propagate-row .ensures .row-margins .size,
-    )
+    let s = at-propagate-row .before .before .before .before .before .before .before .before in
+    record {
+      room = row-within s;
+      narrow = s .pre .plates .sides .narrow;
+      beside-size = s .pre .array .margins .size;
+      row-size = at-propagate-row .propagate-row .ensures .row-margins .size;
+    }
 
 same-length : tie.Need-same-length
 same-length c = search needs
@@ -38,8 +45,8 @@ returns c =
     let at-propagate-row = c .before .before .before .before .before .before in
     let at-load-row = at-propagate-row .before .before .before in
     let at-start = at-load-row .before .before .before .before .before in
-    row-down _ _ _ _ _ _ _ _ _ _ _ (at-start .pre .0 .sides .narrow) (at-load-row .load-row .ensures)
-    (at-propagate-row .propagate-row .ensures) (at-start .pre .4) (c .before .before .merge-row .ensures)
+    row-down _ _ _ _ _ _ _ _ _ _ _ (at-start .pre .plates .sides .narrow) (at-load-row .load-row .ensures)
+    (at-propagate-row .propagate-row .ensures) (at-start .pre .array) (c .before .before .merge-row .ensures)
 
 pub row-down-spec : {M : Type 1} → statement M
 row-down-spec =

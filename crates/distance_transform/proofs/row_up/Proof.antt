@@ -1,11 +1,17 @@
--- `row_up` spreads a row over all rows, from the row below.
+-- `row_up` propagates a row over all rows, from the row below.
 use mathlib.Core.Path.{_∙_}
+use Prim.Native.Nat.{_+_, _*_, _≤_}
 use native.Mathlib.Omega.{arith}
+use lib.ListN.{length}
 use borrow.Author.Needs.{needs}
-use Rattle.row_arrays.proofs.Start.{row-end}
+use Rattle.buffers.proofs.Rooms.{row-room}
 use Rattle.distance_transform.proofs.Passes.{row-up}
 use Rattle.distance_transform.proofs.row_up.Statement.{statement}
 use Rattle.distance_transform.proofs.row_up.Tie as tie
+
+-- the row lies in the map
+row-within : (s : tie.Start) → s .args .y * s .args .head .width + s .args .head .width ≤ length (s .args .out .now)
+row-within s = row-room (s .args .head .width) (s .args .y) (s .args .head .height) _ (s .pre .here) (s .pre .room)
 
 cast-width : tie.Need-cast-width
 cast-width c = search needs
@@ -13,30 +19,31 @@ cast-width c = search needs
 mul-load-run : tie.Need-mul-load-run
 mul-load-run c =
     let s = c .before .before .before in
-    omega (arith, s .pre, row-end (s .args .head .width) (s .args .y) (s .args .head .height) (s .pre .2))
+    omega (arith, row-within s)
 
 load-run-requires : tie.Need-load-run-requires
 load-run-requires c κs =
     let s = c .before .before .before .before in (
-      omega (arith, s .pre, row-end (s .args .head .width) (s .args .y) (s .args .head .height) (s .pre .2)),
-      s .pre .0 .narrow,
-      s .pre .3 .size,
+      row-within s,
+      s .pre .sides .narrow,
+      s .pre .row-margins .size,
     )
 
 mul-merge-row : tie.Need-mul-merge-row
 mul-merge-row c =
     let s = c .before .before .before .before .before in
-    omega (arith, s .pre, row-end (s .args .head .width) (s .args .y) (s .args .head .height) (s .pre .2))
+    omega (arith, row-within s)
 
 merge-row-requires : tie.Need-merge-row-requires
 merge-row-requires c κs =
     let at-load-run = c .before .before .before in
-    let s = at-load-run .before .before .before .before .before in (
-      omega (arith, s .pre, row-end (s .args .head .width) (s .args .y) (s .args .head .height) (s .pre .2)),
-      s .pre .0 .narrow,
-      s .pre .4 .size,
-      at-load-run .load-run .ensures .same ∙ s .pre .3 .size,
-    )
+    let s = at-load-run .before .before .before .before .before in
+    record {
+      room = row-within s;
+      narrow = s .pre .sides .narrow;
+      beside-size = s .pre .below-margins .size;
+      row-size = at-load-run .load-run .ensures .same ∙ s .pre .row-margins .size;
+    }
 
 same-length : tie.Need-same-length
 same-length c = search needs
@@ -45,7 +52,7 @@ returns : tie.Need-returns
 returns c =
     let at-load-run = c .before .before .before .before .before .before in
     let s = at-load-run .before .before .before .before .before in
-    row-up (s .args .head) (s .args .y) _ _ _ _ _ _ _ (s .pre .2) (s .pre .3) (at-load-run .load-run .ensures)
+    row-up (s .args .head) (s .args .y) _ _ _ _ _ _ _ (s .pre .here) (s .pre .row-margins) (at-load-run .load-run .ensures)
     (c .before .before .merge-row .ensures)
 
 pub row-up-spec : {M : Type 1} → statement M

@@ -1,4 +1,4 @@
--- `climb_to` copies the relief and steps on: the invariant is `Climbing` at the number of steps made.
+-- `erode_to` copies the relief and steps on: the invariant is `Eroding` at the number of steps made.
 use Prim.Native.Nat.{_-_, _≤_}
 use mathlib.Core.Path.{_∙_}
 use mathlib.Core.Logic.{inl, inr}
@@ -32,15 +32,15 @@ loop-holds c =
     let given = at-start .args in (
       omega arith,
       eroding-start _ _ _ _
-          (held-start (given .head) (given .relief .now) (given .a .now) _ (at-start .pre .2) (at-start .pre .3)
-          (c .before .before .copy-run .ensures)) (at-start .pre .4),
+          (held-start (given .head) (given .relief .now) (given .a .now) _ (at-start .pre .1 .read) (at-start .pre .1 .first)
+          (c .before .before .copy-run .ensures)) (at-start .pre .1 .second),
     )
 
 step-pair-requires : tie.Need-step-pair-requires Inv-loop μ-loop
 step-pair-requires c κs =
     let at-loop = c .before .before .before in
     let at-start = at-loop .before .before .before .before .before .before .before .before .before .before in
-    eroding-asks _ _ _ _ _ _ _ (at-loop .loop .inv .1) (omega arith) (at-start .pre .1)
+    eroding-asks _ _ _ _ _ _ _ (at-loop .loop .inv .1) (omega arith) (at-start .pre .1 .wide)
 
 add-k : tie.Need-add-k Inv-loop μ-loop
 add-k c = omega arith

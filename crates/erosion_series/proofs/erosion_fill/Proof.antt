@@ -1,4 +1,4 @@
--- `rung_fill` copies the buffer that has the erosion, by the parity of the steps made.
+-- `erosion_fill` copies the buffer that has the erosion, by the parity of the steps made.
 use native.Mathlib.Omega.{arith}
 use Rattle.erosion_series.proofs.Scores.{eroded-to-same, held-mapped}
 use borrow.Author.Needs.{needs}
@@ -35,14 +35,15 @@ returns c =
     let at-erode-to = at-if1 .before .before .before .before .before in
     let at-start = at-erode-to .before .before .before .before .before .before .before .before .before in
     let given = at-start .args in
-    let e = at-erode-to .erode-to .ensures in (
-      held-mapped (given .head) (given .relief .now) (given .number) (at-erode-to .erode-to .result) _ _ _
+    let e = at-erode-to .erode-to .ensures in
+    record {
+      map = held-mapped (given .head) (given .relief .now) (given .number) (at-erode-to .erode-to .result) _ _ _
           (e .pair .even (at-if1 .if1 .taken) .held)
           (eroded-to-same (given .head) (given .relief .now) (given .number) (at-erode-to .erode-to .result) (e .upto)
-          (e .ended)) (c .before .before .copy-run .ensures),
-      e .first,
-      e .second,
-    )
+          (e .ended)) (c .before .before .copy-run .ensures);
+      first = e .first;
+      second = e .second;
+    }
 
 copy-run-requires-2 : tie.Need-copy-run-requires-2
 copy-run-requires-2 c κs = search needs
@@ -61,14 +62,15 @@ returns-2 c =
     let at-erode-to = c .before .before .before .before .before .before .before .before .before .before in
     let at-start = at-erode-to .before .before .before .before .before .before .before .before .before in
     let given = at-start .args in
-    let e = at-erode-to .erode-to .ensures in (
-      held-mapped (given .head) (given .relief .now) (given .number) (at-erode-to .erode-to .result) _ _ _
+    let e = at-erode-to .erode-to .ensures in
+    record {
+      map = held-mapped (given .head) (given .relief .now) (given .number) (at-erode-to .erode-to .result) _ _ _
           (e .pair .odd (omega arith) .held)
           (eroded-to-same (given .head) (given .relief .now) (given .number) (at-erode-to .erode-to .result) (e .upto)
-          (e .ended)) (c .before .before .copy-run2 .ensures),
-      e .first,
-      e .second,
-    )
+          (e .ended)) (c .before .before .copy-run2 .ensures);
+      first = e .first;
+      second = e .second;
+    }
 
 pub erosion-fill-spec : {M : Type 1} → statement M
 erosion-fill-spec =

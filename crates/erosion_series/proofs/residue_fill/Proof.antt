@@ -1,11 +1,10 @@
--- `residue_fill` zeroes the output and joins the one residue, if the climb came so far.
+-- `residue_fill` zeroes the output and joins the one residue, if the series came so far.
 use Prim.Native.Nat.{ℕ}
 use mathlib.Core.Path.{subst}
 use native.Mathlib.Omega.{arith}
 use Rattle.theory.specs.Erosion.{residue}
 use Rattle.buffers.specs.Fill.{Mapped}
-use Rattle.erosion_series.proofs.Pairs.{pair-long}
-use Rattle.erosion_series.proofs.Scores.{pair-asks, residue-mapped, residue-short}
+use Rattle.erosion_series.proofs.Scores.{pair-to-score, residue-mapped, residue-short}
 use borrow.Author.Needs.{needs}
 use Rattle.erosion_series.proofs.residue_fill.Statement.{statement}
 use Rattle.erosion_series.proofs.residue_fill.Tie as tie
@@ -31,16 +30,8 @@ residue-pair-requires c κs =
     let at-erode-to = at-zero-run .before .before .before .before .before .before in
     let at-start = at-erode-to .before .before .before .before .before .before .before .before .before in
     let e = at-erode-to .erode-to .ensures in
-    let l = pair-long _ _ _ _ _ (e .pair) in
-    let m = pair-asks _ _ _ _ _ (e .pair) in (
-      e .some (at-start .pre .0),
-      omega (arith, e .upto),
-      l .0,
-      l .1,
-      omega (arith, at-zero-run .zero-run .ensures .same),
-      m .0,
-      m .1,
-    )
+    pair-to-score _ _ _ _ _ _ (e .pair) (e .some (at-start .pre .0)) (omega (arith, e .upto))
+    (omega (arith, at-zero-run .zero-run .ensures .same))
 
 same-length : tie.Need-same-length
 same-length c = search needs
@@ -58,16 +49,17 @@ returns c =
     let at-erode-to = at-zero-run .before .before .before .before .before .before in
     let at-start = at-erode-to .before .before .before .before .before .before .before .before .before in
     let given = at-start .args in
-    let e = at-erode-to .erode-to .ensures in (
-      subst
+    let e = at-erode-to .erode-to .ensures in
+    record {
+      map = subst
           (λ (j : ℕ). Mapped (given .head) (residue (given .head) (given .relief .now) j) (given .out .now)
           (c .before .before .residue-pair .last .1 .1 .1 .1 .1 .0))
           (at-if1 .if1 .taken)
           (residue-mapped _ _ _ _ _ _ _ _ (e .some (at-start .pre .0)) (e .pair) (at-zero-run .zero-run .ensures)
-          (c .before .before .residue-pair .ensures)),
-      e .first,
-      e .second,
-    )
+          (c .before .before .residue-pair .ensures));
+      first = e .first;
+      second = e .second;
+    }
 
 same-length-4 : tie.Need-same-length-4
 same-length-4 c = search needs
@@ -84,12 +76,13 @@ returns-2 c =
     let at-erode-to = at-zero-run .before .before .before .before .before .before in
     let at-start = at-erode-to .before .before .before .before .before .before .before .before .before in
     let given = at-start .args in
-    let e = at-erode-to .erode-to .ensures in (
-      residue-short (given .head) (given .relief .now) (given .number) (at-erode-to .erode-to .result) _ _
-          (at-start .pre .0) (e .upto) (c .if1 .left) (e .ended) (at-zero-run .zero-run .ensures),
-      e .first,
-      e .second,
-    )
+    let e = at-erode-to .erode-to .ensures in
+    record {
+      map = residue-short (given .head) (given .relief .now) (given .number) (at-erode-to .erode-to .result) _ _
+          (at-start .pre .0) (e .upto) (c .if1 .left) (e .ended) (at-zero-run .zero-run .ensures);
+      first = e .first;
+      second = e .second;
+    }
 
 pub residue-fill-spec : {M : Type 1} → statement M
 residue-fill-spec =

@@ -6,14 +6,14 @@ use Rattle.erosion_series.proofs.residue_pair.Tie as tie
 
 residue-step-requires : tie.Need-residue-step-requires
 residue-step-requires c κs =
-    let at-start = c .before .before .before .before .before in (
-      at-start .pre .0,
-      at-start .pre .1,
-      at-start .pre .3,
-      at-start .pre .2,
-      at-start .pre .4,
-      at-start .pre .5 (c .before .if1 .taken),
-    )
+    let at-start = c .before .before .before .before .before in
+    let g = at-start .pre in
+    record {
+      some = g .some;
+      number = g .number;
+      buffers = record { before = g .second; after = g .first; room = g .room };
+      margin = g .even (c .before .if1 .taken);
+    }
 
 same-length : tie.Need-same-length
 same-length c = search needs
@@ -23,14 +23,14 @@ returns c = search needs
 
 residue-step-requires-2 : tie.Need-residue-step-requires-2
 residue-step-requires-2 c κs =
-    let at-start = c .before .before .before .before .before in (
-      at-start .pre .0,
-      at-start .pre .1,
-      at-start .pre .2,
-      at-start .pre .3,
-      at-start .pre .4,
-      at-start .pre .6 (omega arith),
-    )
+    let at-start = c .before .before .before .before .before in
+    let g = at-start .pre in
+    record {
+      some = g .some;
+      number = g .number;
+      buffers = record { before = g .first; after = g .second; room = g .room };
+      margin = g .odd (omega arith);
+    }
 
 same-length-2 : tie.Need-same-length-2
 same-length-2 c = search needs

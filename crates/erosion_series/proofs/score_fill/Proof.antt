@@ -1,4 +1,4 @@
--- `score_fill` joins one residue at each step: the invariant is the climb's, and the score over the residues so far.
+-- `score_fill` joins one residue at each step: the invariant is the series', and the score over the residues so far.
 use Prim.Native.Nat.{_+_, _-_, _≤_}
 use mathlib.Core.Path.{_≡_, refl, _∙_}
 use mathlib.Core.Logic.{inl, inr}
@@ -6,8 +6,8 @@ use native.Mathlib.Omega.{arith}
 use borrow.Author.Needs.{needs}
 use Rattle.refusal.specs.Refusals.{largestErosion}
 use Rattle.erosion_series.specs.Pairs.{ScoreUpTo}
-use Rattle.erosion_series.proofs.Pairs.{Eroding, kept-copy, kept-more, pair-long, held-start, eroding-start, eroding-asks, eroding-more, eroding-empty}
-use Rattle.erosion_series.proofs.Scores.{pair-asks, pair-scored-kept, score-none, score-more, score-done}
+use Rattle.erosion_series.proofs.Pairs.{Eroding, kept-copy, kept-more, held-start, eroding-start, eroding-asks, eroding-more, eroding-empty}
+use Rattle.erosion_series.proofs.Scores.{pair-to-score, pair-scored-kept, score-none, score-more, score-done}
 use Rattle.erosion_series.proofs.score_fill.Statement.{statement}
 use Rattle.erosion_series.proofs.score_fill.Tie as tie
 
@@ -44,8 +44,8 @@ loop-holds c =
       omega arith,
       refl,
       eroding-start _ _ _ _
-          (held-start (given .head) (given .relief .now) (given .a .now) _ (at-start .pre .1) (at-start .pre .3)
-          (c .before .before .copy-run .ensures)) (at-start .pre .4),
+          (held-start (given .head) (given .relief .now) (given .a .now) _ (at-start .pre .series .read) (at-start .pre .series .first)
+          (c .before .before .copy-run .ensures)) (at-start .pre .series .second),
       score-none (given .head) (given .relief .now) (given .score) _ _ (at-zero-run .zero-run .ensures),
     )
 
@@ -54,7 +54,7 @@ step-pair-requires c κs =
     let at-loop = c .before .before .before in
     let at-start =
     at-loop .before .before .before .before .before .before .before .before .before .before .before .before .before .before .before in
-    eroding-asks _ _ _ _ _ _ _ (at-loop .loop .inv .2) (omega arith) (at-start .pre .0)
+    eroding-asks _ _ _ _ _ _ _ (at-loop .loop .inv .2) (omega arith) (at-start .pre .series .wide)
 
 add-k : tie.Need-add-k Inv-loop μ-loop
 add-k c = omega arith
@@ -66,16 +66,8 @@ residue-pair-requires c κs =
     let at-zero-run = at-loop .before .before .before .before .before .before .before in
     let at-start = at-zero-run .before .before .before .before .before .before .before .before in
     let t = eroding-more _ _ _ _ _ _ _ (at-loop .loop .inv .2) _ _ _ (at-step-pair .step-pair .ensures) in
-    let l = pair-long _ _ _ _ _ (t .pair) in
-    let m = pair-asks _ _ _ _ _ (t .pair) in (
-      omega arith,
-      omega arith,
-      l .0,
-      l .1,
-      omega (arith, at-loop .loop .inv .3 .same, at-zero-run .zero-run .ensures .same, at-start .pre .2),
-      m .0,
-      m .1,
-    )
+    pair-to-score _ _ _ _ _ _ (t .pair) (omega arith) (omega arith)
+    (omega (arith, at-loop .loop .inv .3 .same, at-zero-run .zero-run .ensures .same, at-start .pre .room))
 
 same-length : tie.Need-same-length Inv-loop μ-loop
 same-length c =
@@ -111,16 +103,17 @@ returns c =
     let at-zero-run = at-copy-run .before .before .before .before in
     let at-shared-slice-known = at-zero-run .before .before .before .before .before .before .before in
     let at-start = at-shared-slice-known .before in
-    let t = eroding-more _ _ _ _ _ _ _ (at-loop .loop .inv .2) _ _ _ (at-step-pair .step-pair .ensures) in (
-      score-done (at-start .args .head) (at-start .args .relief .now) (at-start .args .score) (at-loop .loop .k + 1)
+    let t = eroding-more _ _ _ _ _ _ _ (at-loop .loop .inv .2) _ _ _ (at-step-pair .step-pair .ensures) in
+    record {
+      map = score-done (at-start .args .head) (at-start .args .relief .now) (at-start .args .score) (at-loop .loop .k + 1)
           largestErosion _ _ _ (omega (arith, in-loop .loop-test .taken, at-loop .loop .inv .1))
           (inr (eroding-empty _ _ _ _ _ _ _ (at-loop .loop .inv .2) _ _ _ (at-step-pair .step-pair .ensures) (c .if1 .taken)))
           (at-zero-run .zero-run .ensures)
           (score-more _ _ (λ n. omega (arith, at-shared-slice-known .shared-slice-known .given n)) _ _ _ _ _ _ _
-          (at-loop .loop .inv .3) (t .pair) (at-residue-pair .residue-pair .ensures)),
-      kept-more _ _ _ _ (kept-copy _ _ _ _ (at-copy-run .copy-run .ensures)) (t .first),
-      t .second,
-    )
+          (at-loop .loop .inv .3) (t .pair) (at-residue-pair .residue-pair .ensures));
+      first = kept-more _ _ _ _ (kept-copy _ _ _ _ (at-copy-run .copy-run .ensures)) (t .first);
+      second = t .second;
+    }
 
 loop-less : tie.Need-loop-less Inv-loop μ-loop
 loop-less c = omega arith
@@ -158,12 +151,13 @@ returns-2 c =
     let at-copy-run = c .before .before .before .before in
     let at-zero-run = at-copy-run .before .before .before .before in
     let at-start = at-zero-run .before .before .before .before .before .before .before .before in
-    let given = at-start .args in (
-      score-done (given .head) (given .relief .now) (given .score) (c .before .loop .k) largestErosion _ _ _ (omega arith)
-          (inl (omega arith)) (at-zero-run .zero-run .ensures) (c .before .loop .inv .3),
-      kept-more _ _ _ _ (kept-copy _ _ _ _ (at-copy-run .copy-run .ensures)) (c .before .loop .inv .2 .first),
-      c .before .loop .inv .2 .second,
-    )
+    let given = at-start .args in
+    record {
+      map = score-done (given .head) (given .relief .now) (given .score) (c .before .loop .k) largestErosion _ _ _ (omega arith)
+          (inl (omega arith)) (at-zero-run .zero-run .ensures) (c .before .loop .inv .3);
+      first = kept-more _ _ _ _ (kept-copy _ _ _ _ (at-copy-run .copy-run .ensures)) (c .before .loop .inv .2 .first);
+      second = c .before .loop .inv .2 .second;
+    }
 
 pub score-fill-spec : {M : Type 1} → statement M
 score-fill-spec =

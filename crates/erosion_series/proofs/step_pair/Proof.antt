@@ -8,8 +8,9 @@ use Rattle.erosion_series.proofs.step_pair.Tie as tie
 erode-step-requires : tie.Need-erode-step-requires
 erode-step-requires c κs =
     let at-start = c .before .before .before .before .before in
-    let m = at-start .pre .4 (c .before .before .if1 .taken) in
-    (at-start .pre .0, at-start .pre .1, at-start .pre .2, at-start .pre .3, m .0, m .1)
+    let g = at-start .pre in
+    let m = g .even (c .before .before .if1 .taken) in
+    record { number = g .number; wide = g .wide; read = g .first; room = g .second; source = m .0; target = m .1 }
 
 same-length : tie.Need-same-length
 same-length c = search needs
@@ -23,8 +24,9 @@ returns c = record { even = λ e. (refl, c .before .before .erode-step .ensures)
 erode-step-requires-2 : tie.Need-erode-step-requires-2
 erode-step-requires-2 c κs =
     let at-start = c .before .before .before .before .before in
-    let m = at-start .pre .5 (omega arith) in
-    (at-start .pre .0, at-start .pre .1, at-start .pre .3, at-start .pre .2, m .0, m .1)
+    let g = at-start .pre in
+    let m = g .odd (omega arith) in
+    record { number = g .number; wide = g .wide; read = g .second; room = g .first; source = m .0; target = m .1 }
 
 same-length-3 : tie.Need-same-length-3
 same-length-3 c = search needs

@@ -1,10 +1,11 @@
 -- `erode_first` zeroes the plate and then fills row by row inside the border: the invariant is `FirstRows` up to the row reached.
 use lib.ListN.{length}
-use Prim.Native.Nat.{_-_, _≤_, max}
+use Prim.Native.Nat.{ℕ, _+_, _-_, _*_, _≤_, _<_, max}
+use Rattle.buffers.proofs.Rooms.{inner-room, inner-interior}
 use mathlib.Core.Path.{_∙_}
 use native.Mathlib.Omega.{arith}
 use borrow.Author.Needs.{needs}
-use Rattle.erosion_step.proofs.Steps.{FirstRows, first-none, first-more, first-all, first-narrow, row-room}
+use Rattle.erosion_step.proofs.Steps.{FirstRows, first-none, first-more, first-all, first-narrow}
 use Rattle.erosion_step.proofs.erode_first.Statement.{statement}
 use Rattle.erosion_step.proofs.erode_first.Tie as tie
 
@@ -14,6 +15,12 @@ Inv-loop src dst₀ kind width height top₀ y₀ dst top y = (1 ≤ y) × (y �
 
 abbrev μ-loop : tie.MeasureT-loop
 μ-loop src dst₀ kind width height top₀ y₀ dst top y = height - y
+
+-- an inner row of the source, and the rows beside it
+beside : (s : tie.Start Inv-loop μ-loop) (y : ℕ) → 1 ≤ y → y + 1 < s .args .head .height
+    → (s .args .head .width ≤ y * s .args .head .width)
+    × (y * s .args .head .width + s .args .head .width + s .args .head .width ≤ length (s .args .src .now))
+beside s y a b = inner-room (s .args .head .width) y (s .args .head .height) _ a b (s .pre .0)
 
 cast-width : tie.Need-cast-width Inv-loop μ-loop
 cast-width c = search needs
@@ -53,67 +60,38 @@ add-loop c = omega arith
 mul-erode-run : tie.Need-mul-erode-run Inv-loop μ-loop
 mul-erode-run c =
     let at-start = c .before .before .before .before .before .before .before .before .before .before .before .before in
-    let given = at-start .args in
-    omega (
-      arith,
-      row-room (c .before .before .loop .y) (given .head .width) (given .head .height) (length (given .src .now))
-          (c .before .before .loop .inv .0) (c .before .loop-test .taken) (at-start .pre .0),
-    )
+    omega (arith, beside at-start (c .before .before .loop .y) (c .before .before .loop .inv .0) (c .before .loop-test .taken))
 
 add-erode-run : tie.Need-add-erode-run Inv-loop μ-loop
 add-erode-run c =
     let at-start = c .before .before .before .before .before .before .before .before .before .before .before .before in
-    let given = at-start .args in
-    omega (
-      arith,
-      row-room (c .before .before .loop .y) (given .head .width) (given .head .height) (length (given .src .now))
-          (c .before .before .loop .inv .0) (c .before .loop-test .taken) (at-start .pre .0),
-    )
+    omega (arith, beside at-start (c .before .before .loop .y) (c .before .before .loop .inv .0) (c .before .loop-test .taken))
 
 mul-erode-run-2 : tie.Need-mul-erode-run-2 Inv-loop μ-loop
 mul-erode-run-2 c =
     let at-start = c .before .before .before .before .before .before .before .before .before .before .before .before in
-    let given = at-start .args in
-    omega (
-      arith,
-      row-room (c .before .before .loop .y) (given .head .width) (given .head .height) (length (given .src .now))
-          (c .before .before .loop .inv .0) (c .before .loop-test .taken) (at-start .pre .0),
-    )
+    omega (arith, beside at-start (c .before .before .loop .y) (c .before .before .loop .inv .0) (c .before .loop-test .taken))
 
 add-erode-run-2 : tie.Need-add-erode-run-2 Inv-loop μ-loop
 add-erode-run-2 c =
     let at-start = c .before .before .before .before .before .before .before .before .before .before .before .before in
-    let given = at-start .args in
-    omega (
-      arith,
-      row-room (c .before .before .loop .y) (given .head .width) (given .head .height) (length (given .src .now))
-          (c .before .before .loop .inv .0) (c .before .loop-test .taken) (at-start .pre .0),
-    )
+    omega (arith, beside at-start (c .before .before .loop .y) (c .before .before .loop .inv .0) (c .before .loop-test .taken))
 
 sub-erode-run : tie.Need-sub-erode-run Inv-loop μ-loop
 sub-erode-run c =
     let at-start = c .before .before .before .before .before .before .before .before .before .before .before .before in
-    let given = at-start .args in
-    omega (
-      arith,
-      row-room (c .before .before .loop .y) (given .head .width) (given .head .height) (length (given .src .now))
-          (c .before .before .loop .inv .0) (c .before .loop-test .taken) (at-start .pre .0),
-    )
+    omega (arith, beside at-start (c .before .before .loop .y) (c .before .before .loop .inv .0) (c .before .loop-test .taken))
 
 erode-run-requires : tie.Need-erode-run-requires Inv-loop μ-loop
 erode-run-requires c κs =
     let at-zero-run = c .before .before .before .before .before .before in
     let at-start = at-zero-run .before .before .before .before .before .before in
     let given = at-start .args in
-    let r =
-    row-room (c .before .before .loop .y) (given .head .width) (given .head .height) (length (given .src .now))
-    (c .before .before .loop .inv .0) (c .before .loop-test .taken) (at-start .pre .0) in
-    let s =
-    row-room (c .before .before .loop .y) (given .head .width) (given .head .height) (length (given .dst .now))
-    (c .before .before .loop .inv .0) (c .before .loop-test .taken) (at-start .pre .1) in (
-      omega (arith, r .0),
-      omega (arith, r .0),
-      omega (arith, r .1),
+    let y = c .before .before .loop .y in
+    let s = inner-room (given .head .width) y (given .head .height) (length (given .dst .now)) (c .before .before .loop .inv .0)
+    (c .before .loop-test .taken) (at-start .pre .1) in (
+      inner-interior (given .head .width) y (given .head .height) (given .src .now) (omega arith) (c .before .before .loop .inv .0)
+          (c .before .loop-test .taken) (at-start .pre .0),
       omega (arith, s .1, c .before .before .loop .inv .2 .same, at-zero-run .zero-run .ensures .same),
     )
 

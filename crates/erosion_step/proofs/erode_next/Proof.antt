@@ -1,10 +1,17 @@
 -- `erode_next` zeroes two rows above and two below, and runs over all rows between: `next-all` puts the three together.
+use Prim.Native.Nat.{_+_, _*_, _≤_}
 use native.Mathlib.Omega.{arith}
 use lib.ListN.{length}
-use Rattle.erosion_step.proofs.Steps.{next-all, next-gone, next-room}
+use Rattle.erosion_step.proofs.Steps.{NextRoom, next-all, next-gone, next-room, next-interior}
 use borrow.Author.Needs.{needs}
 use Rattle.erosion_step.proofs.erode_next.Statement.{statement}
 use Rattle.erosion_step.proofs.erode_next.Tie as tie
+
+-- the three stretches of the target
+room : (s : tie.Start) → 2 * s .args .k + 3 ≤ s .args .head .height
+    → NextRoom (s .args .k) (s .args .head .width) (s .args .head .height) (length (s .args .dst .now))
+room s h =
+    next-room (s .args .k) (s .args .head .width) (s .args .head .height) _ (s .pre .0) h (s .pre .1 .room)
 
 cast-width : tie.Need-cast-width
 cast-width c = search needs
@@ -32,7 +39,7 @@ returns c =
     let at-if1 = c .before .before .before .before in
     let at-start = at-if1 .before .before .before .before .before in
     let given = at-start .args in
-    next-gone (given .head) (given .k) (given .src .now) (given .dst .now) _ (at-if1 .if1 .taken) (at-start .pre .5)
+    next-gone (given .head) (given .k) (given .src .now) (given .dst .now) _ (at-if1 .if1 .taken) (at-start .pre .1 .source)
     (c .before .before .zero-run .ensures)
 
 sub-zero-run : tie.Need-sub-zero-run
@@ -41,12 +48,7 @@ sub-zero-run c = search needs
 mul-zero-run-2 : tie.Need-mul-zero-run-2
 mul-zero-run-2 c =
     let at-start = c .before .before .before .before .before .before in
-    let given = at-start .args in
-    omega (
-      arith,
-      next-room (given .k) (given .head .width) (given .head .height) (length (given .dst .now)) (omega arith)
-          (omega arith) (omega arith) (at-start .pre .4),
-    )
+    omega (arith, room at-start (omega arith))
 
 add-zero-run : tie.Need-add-zero-run
 add-zero-run c = search needs
@@ -54,20 +56,12 @@ add-zero-run c = search needs
 mul-zero-run-3 : tie.Need-mul-zero-run-3
 mul-zero-run-3 c =
     let at-start = c .before .before .before .before .before .before in
-    let given = at-start .args in
-    omega (
-      arith,
-      next-room (given .k) (given .head .width) (given .head .height) (length (given .dst .now)) (omega arith)
-          (omega arith) (omega arith) (at-start .pre .4),
-    )
+    omega (arith, room at-start (omega arith))
 
 zero-run-requires-2 : tie.Need-zero-run-requires-2
 zero-run-requires-2 c κs =
     let at-start = c .before .before .before .before .before .before in
-    let given = at-start .args in
-    let r =
-    next-room (given .k) (given .head .width) (given .head .height) (length (given .dst .now)) (omega arith)
-    (omega arith) (omega arith) (at-start .pre .4) in
+    let r = room at-start (omega arith) in
     (r .first, omega (arith, r .middle, r .last, r .all))
 
 sub-zero-run-2 : tie.Need-sub-zero-run-2
@@ -79,12 +73,7 @@ sub-zero-run-3 c = search needs
 mul-zero-run-4 : tie.Need-mul-zero-run-4
 mul-zero-run-4 c =
     let at-start = c .before .before .before .before .before .before .before .before .before .before in
-    let given = at-start .args in
-    omega (
-      arith,
-      next-room (given .k) (given .head .width) (given .head .height) (length (given .dst .now)) (omega arith)
-          (omega arith) (omega arith) (at-start .pre .4),
-    )
+    omega (arith, room at-start (omega arith))
 
 sub-zero-run-4 : tie.Need-sub-zero-run-4
 sub-zero-run-4 c = search needs
@@ -95,21 +84,13 @@ add-zero-run-2 c = search needs
 mul-zero-run-5 : tie.Need-mul-zero-run-5
 mul-zero-run-5 c =
     let at-start = c .before .before .before .before .before .before .before .before .before .before in
-    let given = at-start .args in
-    omega (
-      arith,
-      next-room (given .k) (given .head .width) (given .head .height) (length (given .dst .now)) (omega arith)
-          (omega arith) (omega arith) (at-start .pre .4),
-    )
+    omega (arith, room at-start (omega arith))
 
 zero-run-requires-3 : tie.Need-zero-run-requires-3
 zero-run-requires-3 c κs =
     let at-zero-run2 = c .before .before .before in
     let at-start = at-zero-run2 .before .before .before .before .before .before .before in
-    let given = at-start .args in
-    let r =
-    next-room (given .k) (given .head .width) (given .head .height) (length (given .dst .now)) (omega arith)
-    (omega arith) (omega arith) (at-start .pre .4) in
+    let r = room at-start (omega arith) in
     (r .last, omega (arith, r .all, at-zero-run2 .zero-run2 .ensures .same))
 
 add-erode-run : tie.Need-add-erode-run
@@ -119,12 +100,7 @@ mul-erode-run : tie.Need-mul-erode-run
 mul-erode-run c =
     let at-start =
     c .before .before .before .before .before .before .before .before .before .before .before .before .before .before in
-    let given = at-start .args in
-    omega (
-      arith,
-      next-room (given .k) (given .head .width) (given .head .height) (length (given .dst .now)) (omega arith)
-          (omega arith) (omega arith) (at-start .pre .4),
-    )
+    omega (arith, room at-start (omega arith))
 
 sub-erode-run : tie.Need-sub-erode-run
 sub-erode-run c = search needs
@@ -136,12 +112,7 @@ mul-erode-run-2 : tie.Need-mul-erode-run-2
 mul-erode-run-2 c =
     let at-start =
     c .before .before .before .before .before .before .before .before .before .before .before .before .before .before in
-    let given = at-start .args in
-    omega (
-      arith,
-      next-room (given .k) (given .head .width) (given .head .height) (length (given .dst .now)) (omega arith)
-          (omega arith) (omega arith) (at-start .pre .4),
-    )
+    omega (arith, room at-start (omega arith))
 
 erode-run-requires : tie.Need-erode-run-requires
 erode-run-requires c κs =
@@ -149,15 +120,9 @@ erode-run-requires c κs =
     let at-zero-run2 = at-zero-run3 .before .before .before .before in
     let at-start = at-zero-run2 .before .before .before .before .before .before .before in
     let given = at-start .args in
-    let r =
-    next-room (given .k) (given .head .width) (given .head .height) (length (given .src .now)) (omega arith)
-    (omega arith) (omega arith) (at-start .pre .3) in
-    let s =
-    next-room (given .k) (given .head .width) (given .head .height) (length (given .dst .now)) (omega arith)
-    (omega arith) (omega arith) (at-start .pre .4) in (
-      r .under,
-      r .middle,
-      r .over,
+    let s = room at-start (omega arith) in (
+      next-interior (given .k) (given .head .width) (given .head .height) (given .src .now) (at-start .pre .0)
+          (at-start .pre .1 .wide) (omega arith) (at-start .pre .1 .read),
       omega (arith, s .last, s .all, at-zero-run2 .zero-run2 .ensures .same, at-zero-run3 .zero-run3 .ensures .same),
     )
 
@@ -172,7 +137,7 @@ returns-2 c =
     let given = at-start .args in
     next-all (given .head) (given .k) (given .src .now) (given .dst .now) (at-zero-run2 .zero-run2 .last .0)
     (at-zero-run3 .zero-run3 .last .0) (c .before .before .erode-run .last .1 .1 .0)
-    (c .before .before .erode-run .result) (omega arith) (omega arith) (at-start .pre .5) (at-start .pre .6)
+    (c .before .before .erode-run .result) (omega arith) (omega arith) (at-start .pre .1 .source) (at-start .pre .1 .target)
     (record
     { upper = at-zero-run2 .zero-run2 .ensures; lower = at-zero-run3 .zero-run3 .ensures; run = c .before .before .erode-run .ensures })
 

@@ -7,8 +7,9 @@ use lib.ListN.{length, getD}
 use Rattle.geometry.specs.Plane.{cell}
 use Rattle.window.specs.Windows.{windowMax}
 use Rattle.window.proofs.Windows.{window-max-near}
+use Rattle.buffers.proofs.Rooms.{row-room}
 use Rattle.residue_marks.specs.Marks.{markOf, markAt, Marked}
-use Rattle.residue_marks.proofs.Marking.{mark-small, marked-none, marked-more, marked-end, row-room}
+use Rattle.residue_marks.proofs.Marking.{run-fits, mark-small, marked-none, marked-more, marked-end}
 use Rattle.residue_marks.proofs.mark_cells.Statement.{statement}
 use Rattle.residue_marks.proofs.mark_cells.Tie as tie
 
@@ -19,14 +20,17 @@ Inv-loop head prev cur row from to marks₀ kind start count₀ x₀ marks count
 abbrev μ-loop : tie.MeasureT-loop
 μ-loop head prev cur row from to marks₀ kind start count₀ x₀ marks count x = to - x
 
+-- the row lies in the erosion before
+row-within : (s : tie.Start Inv-loop μ-loop) → s .args .row * s .args .head .width + s .args .head .width ≤ length (s .args .prev .now)
+row-within s = row-room (s .args .head .width) (s .args .row) (s .args .head .height) _ (s .pre .0 .here) (s .pre .1 .before)
+
 cast-start : tie.Need-cast-start Inv-loop μ-loop
 cast-start c = search needs
 
 mul-start : tie.Need-mul-start Inv-loop μ-loop
 mul-start c =
     let at-start = c .before .before .before in
-    let given = at-start .args in
-    omega (arith, row-room (given .head) (given .row) (length (given .prev .now)) (at-start .pre .3) (at-start .pre .4))
+    omega (arith, row-within at-start)
 
 loop-holds : tie.Need-loop-holds Inv-loop μ-loop
 loop-holds c = (omega arith, omega arith, refl, marked-none _ _ _)
@@ -37,14 +41,12 @@ cast-mark c = search needs
 add-mark : tie.Need-add-mark Inv-loop μ-loop
 add-mark c =
     let at-start = c .before .before .before .before .before in
-    let given = at-start .args in
-    omega (arith, row-room (given .head) (given .row) (length (given .prev .now)) (at-start .pre .3) (at-start .pre .4))
+    omega (arith, row-within at-start)
 
 shared-slice-read-mark : tie.Need-shared-slice-read-mark Inv-loop μ-loop
 shared-slice-read-mark c =
     let at-start = c .before .before .before .before .before .before in
-    let given = at-start .args in
-    omega (arith, row-room (given .head) (given .row) (length (given .prev .now)) (at-start .pre .3) (at-start .pre .4))
+    omega (arith, row-within at-start)
 
 window-at-requires : tie.Need-window-at-requires Inv-loop μ-loop
 window-at-requires c κs = search needs
@@ -59,7 +61,7 @@ cast-marks : tie.Need-cast-marks Inv-loop μ-loop
 cast-marks c = search needs
 
 element-write-marks : tie.Need-element-write-marks Inv-loop μ-loop
-element-write-marks c = omega arith
+element-write-marks c = omega (arith, run-fits .held, run-fits .rows)
 
 add-count : tie.Need-add-count Inv-loop μ-loop
 add-count c =
@@ -68,6 +70,8 @@ add-count c =
     let given = at-start .args in
     omega (
       arith,
+      run-fits .counted,
+      run-fits .rows,
       at-loop .loop .inv .3 .few,
       mark-small (getD (given .prev .now) (given .row * given .head .width + at-loop .loop .x) 0)
           (c .before .window-max .result),

@@ -1,4 +1,4 @@
--- `mark_run` marks column after column: the invariant is `Marked` up to the column reached.
+-- `mark_run` marks place after place: the invariant is `Marked` up to the place reached.
 use mathlib.Core.Path.{ap, _∙_}
 use Prim.Native.Nat.{_+_, _-_, _≤_}
 use native.Mathlib.Omega.{arith}
@@ -7,7 +7,7 @@ use lib.ListN.{getD}
 use Rattle.window.specs.Windows.{windowMax}
 use Rattle.window.specs.Places.{windowIn}
 use Rattle.residue_marks.specs.Marks.{markOf, Marked}
-use Rattle.residue_marks.proofs.Marking.{mark-small, marked-none, marked-more, marked-end}
+use Rattle.residue_marks.proofs.Marking.{run-fits, mark-small, marked-none, marked-more, marked-end}
 use Rattle.residue_marks.proofs.mark_run.Statement.{statement}
 use Rattle.residue_marks.proofs.mark_run.Tie as tie
 
@@ -37,7 +37,7 @@ mark-requires : tie.Need-mark-requires Inv-loop μ-loop
 mark-requires c κs = search needs
 
 element-write-marks : tie.Need-element-write-marks Inv-loop μ-loop
-element-write-marks c = omega arith
+element-write-marks c = omega (arith, run-fits .held)
 
 add-count : tie.Need-add-count Inv-loop μ-loop
 add-count c =
@@ -45,6 +45,7 @@ add-count c =
     let at-start = at-loop .before .before .before in
     omega (
       arith,
+      run-fits .counted,
       at-loop .loop .inv .2 .few,
       mark-small (getD (at-start .args .prev .now) (at-start .args .start + at-loop .loop .x) 0)
           (c .before .window-max .result),

@@ -1,4 +1,4 @@
--- `join` is `joined`, by the score and by whether the sum fits a byte.
+-- `join` is `joinedScore`, by the score and by whether the sum fits a byte.
 use native.Mathlib.Omega.{arith}
 use borrow.Author.Needs.{needs}
 use Rattle.residue_scores.proofs.join.Statement.{statement}

@@ -1,6 +1,5 @@
 -- `residue_cells` fills with joined residues, each cell by its own window: the invariant is `Filled` up to the column reached.
-use native.Mathlib.Nat.{mul-le-mul-right, le-of-lt}
-use Prim.Native.Nat.{_+_, _*_, _-_, _≤_}
+use Prim.Native.Nat.{ℕ, _+_, _*_, _-_, _≤_, _<_}
 use mathlib.Core.Path.{_≡_, refl, _∙_, ap}
 use native.Mathlib.Omega.{arith}
 use borrow.Author.Needs.{needs}
@@ -9,8 +8,9 @@ use Rattle.window.specs.Windows.{windowMax}
 use Rattle.window.proofs.Windows.{window-max-near}
 use Rattle.buffers.specs.Fill.{Filled}
 use Rattle.buffers.proofs.Fill.{filled-none}
+use Rattle.buffers.proofs.Rooms.{row-room, cell-room}
 use Rattle.residue_scores.specs.Residues.{scoredAt}
-use Rattle.residue_scores.proofs.Residues.{join-as, place, cells-more, cells-end}
+use Rattle.residue_scores.proofs.Residues.{join-as, cells-more, cells-end}
 use Rattle.residue_scores.proofs.residue_cells.Statement.{statement}
 use Rattle.residue_scores.proofs.residue_cells.Tie as tie
 
@@ -21,13 +21,22 @@ Inv-loop head score prev cur out₀ row from to kind start x₀ out x = (from �
 abbrev μ-loop : tie.MeasureT-loop
 μ-loop head score prev cur out₀ row from to kind start x₀ out x = to - x
 
+-- a column's place in a buffer that holds the plate
+placed : (s : tie.Start Inv-loop μ-loop) (x : ℕ) {n : ℕ} → x < s .args .head .width → s .args .head .height * s .args .head .width ≤ n
+    → s .args .row * s .args .head .width + x < n
+placed s x {n} h l = cell-room (s .args .head .width) x (s .args .row) (s .args .head .height) n h (s .pre .0 .here) l
+
 cast-start : tie.Need-cast-start Inv-loop μ-loop
 cast-start c = search needs
 
 mul-start : tie.Need-mul-start Inv-loop μ-loop
 mul-start c =
     let at-start = c .before .before .before .before in
-    omega (arith, mul-le-mul-right (at-start .args .head .width) (le-of-lt (at-start .pre .2)))
+    omega (
+      arith,
+      row-room (at-start .args .head .width) (at-start .args .row) (at-start .args .head .height) _ (at-start .pre .0 .here)
+          (at-start .pre .1 .before),
+    )
 
 loop-holds : tie.Need-loop-holds Inv-loop μ-loop
 loop-holds c = (omega arith, omega arith, refl, filled-none _ _ _)
@@ -41,16 +50,14 @@ add-n c =
     let given = at-start .args in
     omega (
       arith,
-      place (given .row) (given .head .height) (c .before .loop .x) (given .head .width) _ (at-start .pre .2)
-          (omega arith) (at-start .pre .3),
+      placed at-start (c .before .loop .x) (omega arith) (at-start .pre .1 .before),
     )
 
 shared-slice-read-less : tie.Need-shared-slice-read-less Inv-loop μ-loop
 shared-slice-read-less c =
     let at-start = c .before .before .before .before .before .before .before in
     let given = at-start .args in
-    place (given .row) (given .head .height) (c .before .before .loop .x) (given .head .width) _ (at-start .pre .2)
-    (omega arith) (at-start .pre .3)
+    placed at-start (c .before .before .loop .x) (omega arith) (at-start .pre .1 .before)
 
 window-at-requires : tie.Need-window-at-requires Inv-loop μ-loop
 window-at-requires c κs = search needs
@@ -69,8 +76,7 @@ slice-read-join c =
     omega (
       arith,
       at-loop .loop .inv .3 .same,
-      place (given .row) (given .head .height) (at-loop .loop .x) (given .head .width) _ (at-start .pre .2) (omega arith)
-          (at-start .pre .4),
+      placed at-start (at-loop .loop .x) (omega arith) (at-start .pre .1 .room),
     )
 
 join-requires : tie.Need-join-requires Inv-loop μ-loop
@@ -84,8 +90,7 @@ slice-write-out c =
     omega (
       arith,
       at-loop .loop .inv .3 .same,
-      place (given .row) (given .head .height) (at-loop .loop .x) (given .head .width) _ (at-start .pre .2) (omega arith)
-          (at-start .pre .4),
+      placed at-start (at-loop .loop .x) (omega arith) (at-start .pre .1 .room),
     )
 
 add-x : tie.Need-add-x Inv-loop μ-loop
@@ -106,8 +111,7 @@ loop-again c =
       refl,
       cells-more (given .head) (given .score) (given .prev .now) (given .cur .now) (given .out .now) (given .row)
           (given .from) (at-loop .loop .x) (c .join .result) (at-loop .loop .out) (omega arith)
-          (place (given .row) (given .head .height) (at-loop .loop .x) (given .head .width) _ (at-start .pre .2) (omega arith)
-          (at-start .pre .4)) (at-loop .loop .inv .3)
+          (placed at-start (at-loop .loop .x) (omega arith) (at-start .pre .1 .room)) (at-loop .loop .inv .3)
           (join-as (given .score) (c .join .result) _ _ (c .before .before .less .result) _
           (at-window-max .window-max .result) _ (c .join .ensures) refl (c .before .before .less .ensures)
           (at-window-max .window-max .ensures ∙ ap (windowMax (given .head .kind)) (at-window-at .window-at .ensures) ∙

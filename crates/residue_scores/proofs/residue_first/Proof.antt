@@ -20,9 +20,11 @@ residue-row-requires : tie.Need-residue-row-requires Inv-loop μ-loop
 residue-row-requires c κs =
     let at-start = c .before .before .before .before .before .before in (
       omega arith,
-      at-start .pre .0,
-      at-start .pre .1,
-      omega (arith, at-start .pre .2, c .before .before .loop .inv .2 .same),
+      record {
+        before = at-start .pre .before;
+        after = at-start .pre .after;
+        room = omega (arith, at-start .pre .room, c .before .before .loop .inv .2 .same);
+      },
     )
 
 add-row : tie.Need-add-row Inv-loop μ-loop

@@ -1,10 +1,18 @@
 -- `residue_next` joins the rows that are left in one run; outside them, and where nothing is left, no residue is above 0.
+use Prim.Native.Nat.{ℕ, _+_, _-_, _*_, _≤_}
 use native.Mathlib.Omega.{arith}
-use lib.ListN.{length}
-use Rattle.residue_scores.proofs.Residues.{run-room, scored-narrow, scored-low, scored-run}
+use Rattle.buffers.proofs.Rooms.{RowsRoom, rows-room}
+use Rattle.residue_scores.proofs.Residues.{scored-narrow, scored-low, scored-run}
 use borrow.Author.Needs.{needs}
 use Rattle.residue_scores.proofs.residue_next.Statement.{statement}
 use Rattle.residue_scores.proofs.residue_next.Tie as tie
+
+-- the rows that are left, in a buffer that holds the plate
+rows : (s : tie.Start) {n : ℕ} → 2 * s .args .k + 1 ≤ s .args .head .height → s .args .head .height * s .args .head .width ≤ n
+    → RowsRoom (s .args .head .width) (s .args .k) (s .args .head .height - s .args .k) n
+rows s {n} h l =
+    rows-room (s .args .head .width) (s .args .k) (s .args .head .height - s .args .k) (s .args .head .height) n
+    (s .pre .some) (omega arith) (omega (arith, s .pre .some)) l
 
 cast-width : tie.Need-cast-width
 cast-width c = search needs
@@ -17,7 +25,7 @@ returns c =
     let at-slice-known = c .before .before .before in
     let at-start = at-slice-known .before .before .before in
     scored-narrow (at-start .args .head) (at-start .args .score) (at-start .args .prev .now) (at-start .args .cur .now)
-    (at-start .args .out .now) (at-start .args .k) (at-start .pre .5)
+    (at-start .args .out .now) (at-start .args .k) (at-start .pre .margin)
     (λ n. omega (arith, at-slice-known .slice-known .given n)) (omega arith) (c .if1 .taken)
 
 mul-if2 : tie.Need-mul-if2
@@ -31,28 +39,18 @@ returns-2 c =
     let at-slice-known = c .before .before .before .before in
     let at-start = at-slice-known .before .before .before in
     scored-low (at-start .args .head) (at-start .args .score) (at-start .args .prev .now) (at-start .args .cur .now)
-    (at-start .args .out .now) (at-start .args .k) (at-start .pre .5)
+    (at-start .args .out .now) (at-start .args .k) (at-start .pre .margin)
     (λ n. omega (arith, at-slice-known .slice-known .given n)) (c .if2 .taken)
 
 mul-residue-run : tie.Need-mul-residue-run
 mul-residue-run c =
     let at-start = c .before .before .before .before .before .before .before .before in
-    let given = at-start .args in
-    omega (
-      arith,
-      run-room (given .k) (given .head .width) (given .head .height) (length (given .prev .now)) (omega arith)
-          (omega arith) (omega arith) (at-start .pre .2),
-    )
+    omega (arith, rows at-start (omega arith) (at-start .pre .buffers .before))
 
 add-residue-run : tie.Need-add-residue-run
 add-residue-run c =
     let at-start = c .before .before .before .before .before .before .before .before in
-    let given = at-start .args in
-    omega (
-      arith,
-      run-room (given .k) (given .head .width) (given .head .height) (length (given .prev .now)) (omega arith)
-          (omega arith) (omega arith) (at-start .pre .2),
-    )
+    omega (arith, rows at-start (omega arith) (at-start .pre .buffers .before))
 
 sub-residue-run : tie.Need-sub-residue-run
 sub-residue-run c = search needs
@@ -60,41 +58,20 @@ sub-residue-run c = search needs
 mul-residue-run-2 : tie.Need-mul-residue-run-2
 mul-residue-run-2 c =
     let at-start = c .before .before .before .before .before .before .before .before in
-    let given = at-start .args in
-    omega (
-      arith,
-      run-room (given .k) (given .head .width) (given .head .height) (length (given .prev .now)) (omega arith)
-          (omega arith) (omega arith) (at-start .pre .2),
-    )
+    omega (arith, rows at-start (omega arith) (at-start .pre .buffers .before))
 
 sub-residue-run-2 : tie.Need-sub-residue-run-2
 sub-residue-run-2 c =
     let at-start = c .before .before .before .before .before .before .before .before in
-    let given = at-start .args in
-    omega (
-      arith,
-      run-room (given .k) (given .head .width) (given .head .height) (length (given .prev .now)) (omega arith)
-          (omega arith) (omega arith) (at-start .pre .2),
-    )
+    omega (arith, rows at-start (omega arith) (at-start .pre .buffers .before))
 
 residue-run-requires : tie.Need-residue-run-requires
 residue-run-requires c κs =
     let at-start = c .before .before .before .before .before .before .before .before in
-    let given = at-start .args in
-    let r =
-    run-room (given .k) (given .head .width) (given .head .height) (length (given .cur .now)) (omega arith)
-    (omega arith) (omega arith) (at-start .pre .3) in
-    let s =
-    run-room (given .k) (given .head .width) (given .head .height) (length (given .prev .now)) (omega arith)
-    (omega arith) (omega arith) (at-start .pre .2) in
-    let t =
-    run-room (given .k) (given .head .width) (given .head .height) (length (given .out .now)) (omega arith)
-    (omega arith) (omega arith) (at-start .pre .4) in (
-      omega (arith, r .under),
-      omega (arith, r .ordered),
-      omega (arith, r .ordered, r .over),
-      omega (arith, s .over),
-      omega (arith, t .over),
+    let r = rows at-start (omega arith) (at-start .pre .buffers .after) in (
+      record { under = omega (arith, r .under); ordered = omega (arith, r .ordered); over = omega (arith, r .ordered, r .over) },
+      omega (arith, rows at-start (omega arith) (at-start .pre .buffers .before) .over),
+      omega (arith, rows at-start (omega arith) (at-start .pre .buffers .room) .over),
     )
 
 same-length : tie.Need-same-length
@@ -105,7 +82,7 @@ returns-3 c =
     let at-slice-known = c .before .before .before .before .before .before .before .before in
     let at-start = at-slice-known .before .before .before in
     scored-run (at-start .args .head) (at-start .args .score) (at-start .args .prev .now) (at-start .args .cur .now)
-    (at-start .args .out .now) (at-start .args .k) (at-start .pre .5)
+    (at-start .args .out .now) (at-start .args .k) (at-start .pre .margin)
     (λ n. omega (arith, at-slice-known .slice-known .given n)) _ (omega arith) (omega arith) (omega arith)
     (c .before .before .residue-run .ensures)
 

@@ -1,11 +1,17 @@
 -- `load_row` leaves the start of a row: seeds with the row's floor, then both ends raised to the border's number.
 use mathlib.Core.Path.{ap, _∙_}
-use Prim.Native.Nat.{_-_}
+use Prim.Native.Nat.{_+_, _-_, _*_, _≤_}
+use lib.ListN.{length}
 use native.Mathlib.Omega.{arith}
 use borrow.Author.Needs.{needs}
-use Rattle.row_arrays.proofs.Start.{row-end, loaded}
+use Rattle.buffers.proofs.Rooms.{row-room}
+use Rattle.row_arrays.proofs.Start.{loaded}
 use Rattle.row_arrays.proofs.load_row.Statement.{statement}
 use Rattle.row_arrays.proofs.load_row.Tie as tie
+
+-- the row lies in the map
+row-within : (s : tie.Start) → s .args .y * s .args .head .width + s .args .head .width ≤ length (s .args .map .now)
+row-within s = row-room (s .args .head .width) (s .args .y) (s .args .head .height) _ (s .pre .here) (s .pre .long)
 
 cast-width : tie.Need-cast-width
 cast-width c = search needs
@@ -25,16 +31,14 @@ floor-of-requires c κs = search needs
 mul-load-run : tie.Need-mul-load-run
 mul-load-run c =
     let at-start = c .before .before .before .before .before .before in
-    let a = at-start .args in
-    omega (arith, at-start .pre, row-end (a .head .width) (a .y) (a .head .height) (at-start .pre .2))
+    omega (arith, row-within at-start)
 
 load-run-requires : tie.Need-load-run-requires
 load-run-requires c κs =
-    let at-start = c .before .before .before .before .before .before .before in
-    let a = at-start .args in (
-      omega (arith, at-start .pre, row-end (a .head .width) (a .y) (a .head .height) (at-start .pre .2)),
-      at-start .pre .0 .narrow,
-      at-start .pre .3 .size,
+    let at-start = c .before .before .before .before .before .before .before in (
+      row-within at-start,
+      at-start .pre .sides .narrow,
+      at-start .pre .margins .size,
     )
 
 element-copy-out-higher : tie.Need-element-copy-out-higher
@@ -74,8 +78,8 @@ returns c =
     let at-less = at-floor-of .before .before in
     let at-seed-of = at-less .before in
     let s = at-seed-of .before .before .before in
-    loaded (s .args .head) (s .args .seeds) (s .args .map .now) (s .args .y) (s .pre .0) (s .pre .2) _
-    (at-less .less .ensures ∙ ap (λ v. v - 1) (at-seed-of .seed-of .ensures)) _ _ _ _ _ (s .pre .3)
+    loaded (s .args .head) (s .args .seeds) (s .args .map .now) (s .args .y) (s .pre .sides) (s .pre .here) _
+    (at-less .less .ensures ∙ ap (λ v. v - 1) (at-seed-of .seed-of .ensures)) _ _ _ _ _ (s .pre .margins)
     (at-floor-of .floor-of .ensures) (at-load-run .load-run .ensures) (c .before .before .higher .ensures)
     (c .higher2 .ensures)
 

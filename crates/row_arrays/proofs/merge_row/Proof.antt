@@ -21,7 +21,7 @@ returns c =
     let at-store-row = c .before .before .before .before .before .before in
     let at-join-row = at-store-row .before .before .before in
     let at-start = at-join-row .before .before .before .before in
-    merged _ _ _ _ _ _ _ _ _ (at-start .pre .2) (at-start .pre .3) (at-join-row .join-row .ensures)
+    merged _ _ _ _ _ _ _ _ _ (at-start .pre .beside-size) (at-start .pre .row-size) (at-join-row .join-row .ensures)
     (at-store-row .store-row .ensures) (c .copy-run .ensures)
 
 pub merge-row-spec : {M : Type 1} → statement M

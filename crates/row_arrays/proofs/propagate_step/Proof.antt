@@ -1,4 +1,4 @@
--- `spread_step` fills with the highest of three places a step apart: the invariant is `Filled` up to the place reached.
+-- `propagate_step` fills with the highest of three places a step apart: the invariant is `Filled` up to the place reached.
 use mathlib.Core.Path.{ap, ap₂, _∙_}
 use Prim.Native.Nat.{_+_, _-_, _≤_, max}
 use native.Mathlib.Omega.{arith}

@@ -1,4 +1,4 @@
--- `spread_twice` widens what is known by four: a doubling into the spare row and a doubling back.
+-- `propagate_twice` widens what is known by four: a doubling into the spare row and a doubling back.
 use borrow.Author.Needs.{needs}
 use Rattle.row_arrays.proofs.Rows.{widened-twice}
 use Rattle.row_arrays.proofs.propagate_twice.Statement.{statement}
@@ -17,7 +17,7 @@ returns : tie.Need-returns
 returns c =
     let at-propagate-step = c .before .before .before in
     let at-start = at-propagate-step .before .before .before in
-    widened-twice _ _ _ _ _ _ (at-start .pre .2) (at-start .pre .3) (at-propagate-step .propagate-step .ensures)
+    widened-twice _ _ _ _ _ _ (at-start .pre .1 .row-margins) (at-start .pre .1 .spare-margins) (at-propagate-step .propagate-step .ensures)
     (c .propagate-step2 .ensures) (at-start .pre .0)
 
 pub propagate-twice-spec : {M : Type 1} → statement M

@@ -1,6 +1,7 @@
 -- `at_before` gives the map's number at column i - 1 and row j - 1: its tests are those of `before-is`, and past the buffer's end `getD` is 0.
 use native.Mathlib.Omega.{arith}
 use borrow.Author.Tests.{eq-eqb, ne-eqb, lt-ltb, le-ltb}
+use Rattle.window.specs.Places.{largestWord}
 use borrow.Author.Needs.{needs}
 use lib.ListN.{List·getD-eq-default}
 use Rattle.window.proofs.Windows.{place-below, before-is}
@@ -46,10 +47,10 @@ returns-4 c =
     )
 
 mul-number : tie.Need-mul-number
-mul-number c = omega (arith, place-below {k = 65535} (c .if4 .left) (c .before .if3 .left) (omega arith) (omega arith))
+mul-number c = omega (arith, place-below {k = largestWord} (c .if4 .left) (c .before .if3 .left) (omega arith) (omega arith))
 
 add-number : tie.Need-add-number
-add-number c = omega (arith, place-below {k = 65535} (c .if4 .left) (c .before .if3 .left) (omega arith) (omega arith))
+add-number c = omega (arith, place-below {k = largestWord} (c .if4 .left) (c .before .if3 .left) (omega arith) (omega arith))
 
 returns-5 : tie.Need-returns-5
 returns-5 c =

@@ -1,10 +1,9 @@
 -- `corners_max`: the three calls of `higher` are the definition's, on its four corners.
-use mathlib.Core.Path.{ap₂, _∙_}
 use Prim.Native.Nat.{max}
+use Rattle.window.proofs.Windows.{corners-of}
 use borrow.Author.Needs.{needs}
 use Rattle.window.proofs.corners_max.Statement.{statement}
 use Rattle.window.proofs.corners_max.Tie as tie
-use Rattle.window.proofs.higher.Reads as higher-reads
 
 index-1-higher : tie.Need-index-1-higher
 index-1-higher c = search needs
@@ -42,7 +41,7 @@ higher-requires-3 c κs = search needs
 returns : tie.Need-returns
 returns c =
     let at-higher = c .before .before .before .before in
-    c .higher3 .ensures ∙ ap₂ max (at-higher .higher .ensures) (c .before .higher2 .ensures)
+    corners-of max (c .higher3 .ensures) (at-higher .higher .ensures) (c .before .higher2 .ensures)
 
 pub corners-max-spec : {M : Type 1} → statement M
 corners-max-spec =

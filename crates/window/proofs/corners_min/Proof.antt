@@ -1,10 +1,9 @@
 -- `corners_min`: the three calls of `lower` are the definition's, on its four corners.
-use mathlib.Core.Path.{ap₂, _∙_}
 use Prim.Native.Nat.{min}
+use Rattle.window.proofs.Windows.{corners-of}
 use borrow.Author.Needs.{needs}
 use Rattle.window.proofs.corners_min.Statement.{statement}
 use Rattle.window.proofs.corners_min.Tie as tie
-use Rattle.window.proofs.lower.Reads as lower-reads
 
 index-1-lower : tie.Need-index-1-lower
 index-1-lower c = search needs
@@ -42,7 +41,7 @@ lower-requires-3 c κs = search needs
 returns : tie.Need-returns
 returns c =
     let at-lower = c .before .before .before .before in
-    c .lower3 .ensures ∙ ap₂ min (at-lower .lower .ensures) (c .before .lower2 .ensures)
+    corners-of min (c .lower3 .ensures) (at-lower .lower .ensures) (c .before .lower2 .ensures)
 
 pub corners-min-spec : {M : Type 1} → statement M
 corners-min-spec =

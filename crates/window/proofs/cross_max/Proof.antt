@@ -1,10 +1,9 @@
 -- `cross_max`: the four calls of `higher` are the definition's, on its five places.
-use mathlib.Core.Path.{refl, ap₂, _∙_}
 use Prim.Native.Nat.{max}
+use Rattle.window.proofs.Windows.{cross-of}
 use borrow.Author.Needs.{needs}
 use Rattle.window.proofs.cross_max.Statement.{statement}
 use Rattle.window.proofs.cross_max.Tie as tie
-use Rattle.window.proofs.higher.Reads as higher-reads
 
 index-1-higher : tie.Need-index-1-higher
 index-1-higher c = search needs
@@ -52,8 +51,7 @@ returns : tie.Need-returns
 returns c =
     let at-higher2 = c .before .before .before in
     let at-higher = at-higher2 .before .before .before in
-    c .higher4 .ensures ∙ ap₂ max (at-higher .higher .ensures)
-    (c .before .higher3 .ensures ∙ ap₂ max (at-higher2 .higher2 .ensures) refl)
+    cross-of max (c .higher4 .ensures) (at-higher .higher .ensures) (c .before .higher3 .ensures) (at-higher2 .higher2 .ensures)
 
 pub cross-max-spec : {M : Type 1} → statement M
 cross-max-spec =

@@ -1,10 +1,9 @@
 -- `cross_min`: the four calls of `lower` are the definition's, on its five places.
-use mathlib.Core.Path.{refl, ap₂, _∙_}
 use Prim.Native.Nat.{min}
+use Rattle.window.proofs.Windows.{cross-of}
 use borrow.Author.Needs.{needs}
 use Rattle.window.proofs.cross_min.Statement.{statement}
 use Rattle.window.proofs.cross_min.Tie as tie
-use Rattle.window.proofs.lower.Reads as lower-reads
 
 index-1-lower : tie.Need-index-1-lower
 index-1-lower c = search needs
@@ -52,8 +51,7 @@ returns : tie.Need-returns
 returns c =
     let at-lower2 = c .before .before .before in
     let at-lower = at-lower2 .before .before .before in
-    c .lower4 .ensures ∙ ap₂ min (at-lower .lower .ensures)
-    (c .before .lower3 .ensures ∙ ap₂ min (at-lower2 .lower2 .ensures) refl)
+    cross-of min (c .lower4 .ensures) (at-lower .lower .ensures) (c .before .lower3 .ensures) (at-lower2 .lower2 .ensures)
 
 pub cross-min-spec : {M : Type 1} → statement M
 cross-min-spec =

@@ -1,4 +1,4 @@
--- `sweep` makes a number of each window, row after row: the invariant is `SweptTo` the row reached.
+-- `filter_map` makes a number of each window, row after row: the invariant is `FilteredTo` the row reached.
 use mathlib.Core.Path.{_∙_}
 use Prim.Native.Nat.{_-_, _*_}
 use native.Mathlib.Omega.{arith}
@@ -21,38 +21,39 @@ cast-height : tie.Need-cast-height Inv-loop μ-loop
 cast-height c = search needs
 
 mul-if1 : tie.Need-mul-if1 Inv-loop μ-loop
-mul-if1 c = let at-start = c .before .before .before in omega (arith, at-start .pre .2)
+mul-if1 c = let at-start = c .before .before .before in omega (arith, at-start .pre .edge)
 
 returns : tie.Need-returns Inv-loop μ-loop
 returns c =
     let s = c .before .before .before .before in
-    filtered-narrow (s .args .head) (s .args .edge) _ (s .pre .3) (s .args .made) (c .if1 .taken)
+    filtered-narrow (s .args .head) (s .args .edge) _ (s .pre .zeros) (s .args .made) (c .if1 .taken)
 
 mul-if2 : tie.Need-mul-if2 Inv-loop μ-loop
-mul-if2 c = let at-start = c .before .before .before .before in omega (arith, at-start .pre .2)
+mul-if2 c = let at-start = c .before .before .before .before in omega (arith, at-start .pre .edge)
 
 returns-2 : tie.Need-returns-2 Inv-loop μ-loop
 returns-2 c =
     let s = c .before .before .before .before .before in
-    filtered-low (s .args .head) (s .args .edge) _ (s .pre .3) (s .args .made) (c .if2 .taken)
+    filtered-low (s .args .head) (s .args .edge) _ (s .pre .zeros) (s .args .made) (c .if2 .taken)
 
 read-row-requires : tie.Need-read-row-requires Inv-loop μ-loop
 read-row-requires c κs =
     let at-if1 = c .before .before .before in
-    let s = at-if1 .before .before .before .before in (
-      s .pre .0,
-      s .pre .1,
-      at-if1 .if1 .left,
-      omega (arith, c .before .before .if2 .left),
-      row-zeros (s .args .head .width - 2 * s .args .edge) .margins,
-    )
+    let s = at-if1 .before .before .before .before in
+    record {
+      sides = s .pre .sides;
+      long = s .pre .long;
+      some = at-if1 .if1 .left;
+      here = omega (arith, c .before .before .if2 .left);
+      margins = row-zeros (s .args .head .width - 2 * s .args .edge) .margins;
+    }
 
 loop-holds : tie.Need-loop-holds Inv-loop μ-loop
 loop-holds c =
     let at-if2 = c .before .before .before in
     let at-if1 = at-if2 .before in
     let s = at-if1 .before .before .before .before in
-    filtered-none (s .args .head) (s .args .edge) _ (s .pre .3) (s .args .made) _ (at-if1 .if1 .left) (at-if2 .if2 .left)
+    filtered-none (s .args .head) (s .args .edge) _ (s .pre .zeros) (s .args .made) _ (at-if1 .if1 .left) (at-if2 .if2 .left)
     (c .read-row .ensures)
 
 add-loop : tie.Need-add-loop Inv-loop μ-loop
@@ -65,7 +66,13 @@ filter-row-requires c κs =
     let at-if1 = at-loop .before .before .before .before .before in
     let s = at-if1 .before .before .before .before in
     let a = at-loop .loop .inv in
-    (s .pre .0, omega (arith, s .pre .1, a .same), at-if1 .if1 .left, at-loop-test .loop-test .taken, a .below-margins)
+    record {
+      sides = s .pre .sides;
+      long = omega (arith, s .pre .long, a .same);
+      some = at-if1 .if1 .left;
+      here = omega (arith, at-loop-test .loop-test .taken);
+      margins = a .below-margins;
+    }
 
 add-y : tie.Need-add-y Inv-loop μ-loop
 add-y c =
@@ -91,8 +98,8 @@ returns-3 c =
     let at-if1 = at-loop .before .before .before .before .before in
     let s = at-if1 .before .before .before .before in
     let wide = at-if1 .if1 .left in
-    let more = filtered-more (s .args .head) (s .args .edge) _ (s .pre .3) (s .args .made) in
-    filtered-all (s .args .head) (s .args .edge) _ (s .pre .3) (s .args .made) _ _ _ _ _ wide
+    let more = filtered-more (s .args .head) (s .args .edge) _ (s .pre .zeros) (s .args .made) in
+    filtered-all (s .args .head) (s .args .edge) _ (s .pre .zeros) (s .args .made) _ _ _ _ _ wide
     (more _ _ _ _ _ _ _ wide (at-loop .loop .inv) (at-loop-test .loop-test .taken) (at-filter-row .filter-row .ensures))
     (c .if3 .taken)
 
@@ -103,27 +110,28 @@ filter-row-requires-2 c κs =
     let at-loop = at-filter-row .before .before .before .before .before .before in
     let at-if1 = at-loop .before .before .before .before .before in
     let s = at-if1 .before .before .before .before in
-    let a = at-loop .loop .inv in (
-      s .pre .0,
-      omega (arith, s .pre .1, at-filter-row .filter-row .ensures .map-is .same, a .same),
-      at-if1 .if1 .left,
-      at-if3 .if3 .left,
-      a .above-is .margins,
-    )
+    let a = at-loop .loop .inv in
+    record {
+      sides = s .pre .sides;
+      long = omega (arith, s .pre .long, at-filter-row .filter-row .ensures .map-is .same, a .same);
+      some = at-if1 .if1 .left;
+      here = omega (arith, at-if3 .if3 .left);
+      margins = a .above-is .margins;
+    }
 
 add-y-2 : tie.Need-add-y-2 Inv-loop μ-loop
 add-y-2 c =
     let at-if3 = c .before .before .before .before .before .before .before in
     let at-start =
     at-if3 .before .before .before .before .before .before .before .before .before .before .before .before .before .before .before .before .before .before in
-    omega (arith, at-start .pre .0 .low, at-if3 .if3 .left)
+    omega (arith, at-start .pre .sides .low, at-if3 .if3 .left)
 
 add-if4 : tie.Need-add-if4 Inv-loop μ-loop
 add-if4 c =
     let at-if3 = c .before .before .before .before .before .before .before in
     let at-start =
     at-if3 .before .before .before .before .before .before .before .before .before .before .before .before .before .before .before .before .before .before in
-    omega (arith, at-start .pre .0 .low, at-if3 .if3 .left)
+    omega (arith, at-start .pre .sides .low, at-if3 .if3 .left)
 
 same-length-2 : tie.Need-same-length-2 Inv-loop μ-loop
 same-length-2 c =
@@ -143,8 +151,8 @@ returns-4 c =
     let at-if1 = at-loop .before .before .before .before .before in
     let s = at-if1 .before .before .before .before in
     let wide = at-if1 .if1 .left in
-    let more = filtered-more (s .args .head) (s .args .edge) _ (s .pre .3) (s .args .made) in
-    filtered-all (s .args .head) (s .args .edge) _ (s .pre .3) (s .args .made) _ _ _ _ _ wide
+    let more = filtered-more (s .args .head) (s .args .edge) _ (s .pre .zeros) (s .args .made) in
+    filtered-all (s .args .head) (s .args .edge) _ (s .pre .zeros) (s .args .made) _ _ _ _ _ wide
     (more _ _ _ _ _ _ _ wide
     (more _ _ _ _ _ _ _ wide (at-loop .loop .inv) (at-loop-test .loop-test .taken) (at-filter-row .filter-row .ensures))
     (at-if3 .if3 .left) (at-filter-row2 .filter-row2 .ensures)) (c .if4 .taken)
@@ -157,31 +165,32 @@ filter-row-requires-3 c κs =
     let at-loop = at-filter-row .before .before .before .before .before .before in
     let at-if1 = at-loop .before .before .before .before .before in
     let s = at-if1 .before .before .before .before in
-    let a = at-loop .loop .inv in (
-      s .pre .0,
-      omega (
+    let a = at-loop .loop .inv in
+    record {
+      sides = s .pre .sides;
+      long = omega (
         arith,
-        s .pre .1,
+        s .pre .long,
         at-filter-row2 .filter-row2 .ensures .map-is .same,
         at-filter-row .filter-row .ensures .map-is .same,
         a .same,
-      ),
-      at-if1 .if1 .left,
-      at-if4 .if4 .left,
-      a .mid-is .margins,
-    )
+      );
+      some = at-if1 .if1 .left;
+      here = omega (arith, at-if4 .if4 .left);
+      margins = a .mid-is .margins;
+    }
 
 add-y-3 : tie.Need-add-y-3 Inv-loop μ-loop
 add-y-3 c =
     let at-if4 = c .before .before .before .before .before .before .before in
     let half-way = at-if4 .before .before .before .before .before .before .before .before .before .before .before .before .before in
     let at-start = half-way .before .before .before .before .before .before .before .before .before .before .before .before .before in
-    omega (arith, at-start .pre .0 .low, at-if4 .if4 .left)
+    omega (arith, at-start .pre .sides .low, at-if4 .if4 .left)
 
 loop-less : tie.Need-loop-less Inv-loop μ-loop
 loop-less c =
-    let at-loop-test =
-    c .before .before .before .before .before .before .before .before .before .before .before .before .before .before .before .before .before .before .before .before .before .before .before in
+    let half-way = c .before .before .before .before .before .before .before .before .before .before .before in
+    let at-loop-test = half-way .before .before .before .before .before .before .before .before .before .before .before .before in
     omega (arith, at-loop-test .loop-test .taken)
 
 loop-again : tie.Need-loop-again Inv-loop μ-loop
@@ -195,7 +204,7 @@ loop-again c =
     let at-if1 = at-loop .before .before .before .before .before in
     let s = at-if1 .before .before .before .before in
     let wide = at-if1 .if1 .left in
-    let more = filtered-more (s .args .head) (s .args .edge) _ (s .pre .3) (s .args .made) in
+    let more = filtered-more (s .args .head) (s .args .edge) _ (s .pre .zeros) (s .args .made) in
     more _ _ _ _ _ _ _ wide
     (more _ _ _ _ _ _ _ wide
     (more _ _ _ _ _ _ _ wide (at-loop .loop .inv) (at-loop-test .loop-test .taken) (at-filter-row .filter-row .ensures))
@@ -210,7 +219,7 @@ returns-5 c =
     let at-if1 = c .before .before .before .before .before .before in
     let s = at-if1 .before .before .before .before in
     let wide = at-if1 .if1 .left in
-    filtered-all (s .args .head) (s .args .edge) _ (s .pre .3) (s .args .made) _ _ _ _ _ wide (c .before .loop .inv)
+    filtered-all (s .args .head) (s .args .edge) _ (s .pre .zeros) (s .args .made) _ _ _ _ _ wide (c .before .loop .inv)
     (c .loop-test .left)
 
 pub filter-map-spec : {M : Type 1} → statement M

@@ -1,9 +1,17 @@
--- `sweep_row` reads the row below and writes one row.
+-- `filter_row` reads the row below and writes one row.
+use Prim.Native.Nat.{_+_, _-_, _*_, _≤_}
+use lib.ListN.{length}
 use native.Mathlib.Omega.{arith}
 use Rattle.window_filter.proofs.InPlace.{between}
 use borrow.Author.Needs.{needs}
 use Rattle.window_filter.proofs.filter_row.Statement.{statement}
 use Rattle.window_filter.proofs.filter_row.Tie as tie
+
+-- the row's columns between the edges lie in the map
+stretch : (s : tie.Start) → s .args .y * s .args .head .width + s .args .edge + (s .args .head .width - 2 * s .args .edge) ≤ length (s .args .map .now)
+stretch s =
+    between (s .args .head .width) (s .args .edge) (s .args .y) (s .args .head .height) _ (s .pre .some)
+    (omega (arith, s .pre .here)) (s .pre .long)
 
 cast-width : tie.Need-cast-width
 cast-width c = search needs
@@ -17,22 +25,12 @@ sub-count c = search needs
 mul-from : tie.Need-mul-from
 mul-from c =
     let s = c .before .before in
-    omega (
-      arith,
-      s .pre .1,
-      between (s .args .head .width) (s .args .edge) (s .args .y) (s .args .head .height) _ (s .pre .2)
-          (omega (arith, s .pre .3)) (s .pre .1),
-    )
+    omega (arith, stretch s)
 
 add-from : tie.Need-add-from
 add-from c =
     let s = c .before .before in
-    omega (
-      arith,
-      s .pre .1,
-      between (s .args .head .width) (s .args .edge) (s .args .y) (s .args .head .height) _ (s .pre .2)
-          (omega (arith, s .pre .3)) (s .pre .1),
-    )
+    omega (arith, stretch s)
 
 add-read-row : tie.Need-add-read-row
 add-read-row c = search needs
@@ -43,9 +41,8 @@ read-row-requires c κs = search needs
 filter-run-requires : tie.Need-filter-run-requires
 filter-run-requires c κs =
     let s = c .before .before .before .before .before .before .before in (
-      between (s .args .head .width) (s .args .edge) (s .args .y) (s .args .head .height) _ (s .pre .2)
-          (omega (arith, s .pre .3)) (s .pre .1),
-      omega (arith, s .pre .0 .narrow),
+      stretch s,
+      omega (arith, s .pre .sides .narrow),
     )
 
 same-length : tie.Need-same-length

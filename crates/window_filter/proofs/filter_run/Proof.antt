@@ -1,4 +1,4 @@
--- `sweep_run` fills a stretch with what is made of each window: the invariant is `Filled` up to the place reached.
+-- `filter_run` fills a stretch with what is made of each window: the invariant is `Filled` up to the place reached.
 use mathlib.Core.Path.{ap, _∙_}
 use Prim.Native.Nat.{_+_, _-_, _≤_}
 use native.Mathlib.Omega.{arith}
