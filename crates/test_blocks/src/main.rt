@@ -98,7 +98,7 @@ fn print_same(file: &[u8], out: &[u8], n: usize) {
 
 // ---- buffers
 
-fn cells() -> [u8; CELLS]
+fn cells_room() -> [u8; CELLS]
     ensures { λ r. ⌜ 57840 ≡ length r ⌝ }
 {
     [UNTOUCHED; CELLS]
@@ -137,17 +137,17 @@ fn list_again(
 // The same into an output of some length.
 fn list_within(plate: Plate, relief: &[u8], file: &[u8], room: usize) {
     let mut out = long_room();
-    let mut a = cells();
-    let mut b = cells();
+    let mut a = cells_room();
+    let mut b = cells_room();
     let end = part(&out, room);
     list_again(plate, relief, file, &mut out[..end], &mut a, &mut b);
 }
 
 fn run_tidy(file: &[u8]) {
     let mut out = long_room();
-    let mut a = cells();
-    let mut b = cells();
-    let mut c = cells();
+    let mut a = cells_room();
+    let mut b = cells_room();
+    let mut c = cells_room();
     print_text(b"tidy: ");
     let answer = jobs::tidy(file, &mut out, &mut a, &mut b, &mut c);
     let n = print_answer(answer, &out);
@@ -155,9 +155,9 @@ fn run_tidy(file: &[u8]) {
 }
 
 fn run_check(file: &[u8]) {
-    let mut a = cells();
-    let mut b = cells();
-    let mut c = cells();
+    let mut a = cells_room();
+    let mut b = cells_room();
+    let mut c = cells_room();
     print_text(b"check: ");
     let verdict = jobs::check(file, &mut a, &mut b, &mut c);
     match verdict {
@@ -177,6 +177,7 @@ fn run_listed(plate: Plate, relief: &[u8], file: &[u8]) {
     run_check(file);
 }
 
+// Lists a relief into a file, then makes every call on that.
 fn block_into(plate: Plate, relief: &[u8], file: &mut [u8], a: &mut [u8], b: &mut [u8]) {
     let n = run_list(plate, relief, file, a, b);
     let end = part(file, n);
@@ -185,13 +186,13 @@ fn block_into(plate: Plate, relief: &[u8], file: &mut [u8], a: &mut [u8], b: &mu
 
 fn run_block(plate: Plate, relief: &[u8]) {
     let mut file = long_room();
-    let mut a = cells();
-    let mut b = cells();
+    let mut a = cells_room();
+    let mut b = cells_room();
     block_into(plate, relief, &mut file, &mut a, &mut b);
 }
 
 fn run_pattern(plate: Plate, pattern: u8) {
-    let mut relief = cells();
+    let mut relief = cells_room();
     test_io::fill_relief(&mut relief, pattern, 1, SIDE, SIDE, b"");
     run_block(plate, &relief);
 }
@@ -211,10 +212,10 @@ fn run_largest(kind: u8) {
 fn run_sides(plate: Plate) {
     print_text(b"block: sides\n");
     print_plate(plate);
-    let relief = cells();
-    let mut out = cells();
-    let mut a = cells();
-    let mut b = cells();
+    let relief = cells_room();
+    let mut out = cells_room();
+    let mut a = cells_room();
+    let mut b = cells_room();
     run_list(plate, &relief, &mut out, &mut a, &mut b);
     print_rest(&a, 0);
     print_rest(&b, 0);

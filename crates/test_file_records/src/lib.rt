@@ -18,9 +18,11 @@ use test_io::print_refusal;
 use test_io::print_rest;
 use test_io::print_text;
 use test_io::word;
-use test_records::CELLS;
-use test_records::FILE;
+use test_records::CELLS_ROOM;
+use test_records::FILE_ROOM;
 use test_records::between;
+use test_records::cells_room;
+use test_records::file_room;
 use test_records::size_of;
 
 // The fixed bytes of a record.
@@ -83,19 +85,19 @@ fn taken(record: Record) -> usize {
 
 // Whether the buffers have as many bytes as a record asks.
 fn fits(record: Record) -> bool {
-    if CELLS < size_of(record.source) {
+    if CELLS_ROOM < size_of(record.source) {
         return false;
     }
-    if FILE < record.output as usize {
+    if FILE_ROOM < record.output as usize {
         return false;
     }
-    if CELLS < size_of(record.a) {
+    if CELLS_ROOM < size_of(record.a) {
         return false;
     }
-    if CELLS < size_of(record.b) {
+    if CELLS_ROOM < size_of(record.b) {
         return false;
     }
-    size_of(record.c) <= CELLS
+    size_of(record.c) <= CELLS_ROOM
 }
 
 // How many cells the plate has.
@@ -193,6 +195,7 @@ fn run_read(file: &[u8]) {
     }
 }
 
+// Draws a file into an output, and prints what comes back.
 fn draw_into(file: &[u8], cells: usize, out: &mut [u8]) {
     let verdict = draw(file, out);
     match verdict {
@@ -209,12 +212,12 @@ fn draw_into(file: &[u8], cells: usize, out: &mut [u8]) {
 
 fn run_draw(record: Record, file: &[u8]) {
     print_text(b"draw : ");
-    let mut out = test_records::file();
+    let mut out = file_room();
     let output = part(&out, record.output as usize);
     draw_into(file, cells_of(record), &mut out[..output]);
 }
 
-// Listing has two work buffers.
+// Lists a relief into an output, and prints what comes back; gives the length of the file. Listing has two work buffers.
 fn list_into(record: Record, relief: &[u8], out: &mut [u8], a: &mut [u8], b: &mut [u8]) -> usize {
     let answer = list(relief, record.kind, record.width, record.height, out, a, b);
     print_list(answer, cells_of(record), out, a, b, b"")
@@ -223,13 +226,14 @@ fn list_into(record: Record, relief: &[u8], out: &mut [u8], a: &mut [u8], b: &mu
 // Lists a relief; gives the length of the file, 0 if it was refused.
 fn run_list(record: Record, relief: &[u8], out: &mut [u8]) -> usize {
     print_text(b"list : ");
-    let mut a = test_records::cells();
-    let mut b = test_records::cells();
+    let mut a = cells_room();
+    let mut b = cells_room();
     let first = part(&a, size_of(record.a));
     let second = part(&b, size_of(record.b));
     list_into(record, relief, out, &mut a[..first], &mut b[..second])
 }
 
+// Tidies a file into an output, and prints what comes back.
 fn tidy_into(file: &[u8], cells: usize, out: &mut [u8], a: &mut [u8], b: &mut [u8], c: &mut [u8]) {
     let answer = tidy(file, out, a, b, c);
     print_list(answer, cells, out, a, b, c);
@@ -237,10 +241,10 @@ fn tidy_into(file: &[u8], cells: usize, out: &mut [u8], a: &mut [u8], b: &mut [u
 
 fn run_tidy(record: Record, file: &[u8]) {
     print_text(b"tidy : ");
-    let mut out = test_records::file();
-    let mut a = test_records::cells();
-    let mut b = test_records::cells();
-    let mut c = test_records::cells();
+    let mut out = file_room();
+    let mut a = cells_room();
+    let mut b = cells_room();
+    let mut c = cells_room();
     let output = part(&out, record.output as usize);
     let first = part(&a, size_of(record.a));
     let second = part(&b, size_of(record.b));
@@ -255,6 +259,7 @@ fn run_tidy(record: Record, file: &[u8]) {
     );
 }
 
+// Checks a file with work buffers, and prints what comes back.
 fn check_with(file: &[u8], cells: usize, a: &mut [u8], b: &mut [u8], c: &mut [u8]) {
     let verdict = check(file, a, b, c);
     match verdict {
@@ -271,9 +276,9 @@ fn check_with(file: &[u8], cells: usize, a: &mut [u8], b: &mut [u8], c: &mut [u8
 
 fn run_check(record: Record, file: &[u8]) {
     print_text(b"check : ");
-    let mut a = test_records::cells();
-    let mut b = test_records::cells();
-    let mut c = test_records::cells();
+    let mut a = cells_room();
+    let mut b = cells_room();
+    let mut c = cells_room();
     let first = part(&a, size_of(record.a));
     let second = part(&b, size_of(record.b));
     let third = part(&c, size_of(record.c));
@@ -323,8 +328,8 @@ fn run_filled(record: Record, source: &[u8], relief: &mut [u8], out: &mut [u8]) 
 }
 
 fn run_relief(record: Record, source: &[u8]) {
-    let mut relief = test_records::cells();
-    let mut out = test_records::file();
+    let mut relief = cells_room();
+    let mut out = file_room();
     let cells = part(&relief, size_of(record.source));
     let output = part(&out, record.output as usize);
     run_filled(record, source, &mut relief[..cells], &mut out[..output]);
@@ -337,7 +342,7 @@ fn run_repeated(record: Record, source: &[u8], file: &mut [u8]) {
 }
 
 fn run_repeat(record: Record, source: &[u8]) {
-    let mut file = test_records::file();
+    let mut file = file_room();
     let output = part(&file, record.output as usize);
     run_repeated(record, source, &mut file[..output]);
 }

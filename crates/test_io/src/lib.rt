@@ -230,6 +230,7 @@ pub fn is_kept(buf: &[u8], from: usize) -> bool {
     true
 }
 
+// Whether both are so.
 pub fn both(a: bool, b: bool) -> bool {
     if a { b } else { false }
 }

@@ -8,7 +8,8 @@ use scan::byte_in;
 use test_io::part;
 use test_io::print_text;
 use test_io::word;
-use test_records::CELLS;
+use test_records::CELLS_ROOM;
+use test_records::cells_room;
 use test_records::size_of;
 
 // The fixed bytes of a record.
@@ -59,13 +60,13 @@ fn taken(record: Record) -> usize {
 
 // Whether the buffers have as many bytes as a record asks.
 fn fits(record: Record) -> bool {
-    if CELLS < size_of(record.relief) {
+    if CELLS_ROOM < size_of(record.relief) {
         return false;
     }
-    if CELLS < size_of(record.output) {
+    if CELLS_ROOM < size_of(record.output) {
         return false;
     }
-    size_of(record.work) <= CELLS
+    size_of(record.work) <= CELLS_ROOM
 }
 
 // ---- printing
@@ -141,6 +142,7 @@ fn level_call(record: Record, relief: &[u8], out: &mut [u8]) -> Verdict {
     }
 }
 
+// Makes the call into an output, and prints what comes back.
 fn level_into(record: Record, relief: &[u8], out: &mut [u8]) {
     let verdict = level_call(record, relief, out);
     print_verdict(verdict);
@@ -148,7 +150,7 @@ fn level_into(record: Record, relief: &[u8], out: &mut [u8]) {
 }
 
 fn run_level(record: Record, relief: &[u8]) {
-    let mut out = test_records::cells();
+    let mut out = cells_room();
     let output = part(&out, size_of(record.output));
     level_into(record, relief, &mut out[..output]);
 }
@@ -176,6 +178,7 @@ fn series_call(
     }
 }
 
+// Makes the call into an output, with work buffers, and prints what comes back.
 fn series_into(record: Record, relief: &[u8], out: &mut [u8], a: &mut [u8], b: &mut [u8]) {
     let verdict = series_call(record, relief, out, a, b);
     print_verdict(verdict);
@@ -184,9 +187,9 @@ fn series_into(record: Record, relief: &[u8], out: &mut [u8], a: &mut [u8], b: &
 }
 
 fn run_series(record: Record, relief: &[u8]) {
-    let mut out = test_records::cells();
-    let mut a = test_records::cells();
-    let mut b = test_records::cells();
+    let mut out = cells_room();
+    let mut a = cells_room();
+    let mut b = cells_room();
     let output = part(&out, size_of(record.output));
     let first = part(&a, size_of(record.work));
     let second = part(&b, size_of(record.work));
@@ -223,7 +226,7 @@ fn run_filled(record: Record, source: &[u8], relief: &mut [u8]) {
 }
 
 fn run_record(record: Record, source: &[u8]) {
-    let mut relief = test_records::cells();
+    let mut relief = cells_room();
     let cells = part(&relief, size_of(record.relief));
     run_filled(record, source, &mut relief[..cells]);
 }

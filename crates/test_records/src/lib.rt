@@ -10,10 +10,10 @@ const SIDE: usize = LARGEST_SIDE as usize;
 
 // Bytes of a buffer with a byte for each cell: ten rows more than the largest plate has, since records ask for surplus bytes
 // and for buffers of plates that are too large.
-pub const CELLS: usize = SIDE * (SIDE + 10);
+pub const CELLS_ROOM: usize = SIDE * (SIDE + 10);
 
 // Bytes of a buffer that holds a file; the longest that is asked for.
-pub const FILE: usize = 10 * CELLS;
+pub const FILE_ROOM: usize = 10 * CELLS_ROOM;
 
 // ---- places
 
@@ -59,14 +59,14 @@ pub fn literal(pattern: u8, length: u16) -> usize
 
 // ---- buffers, as every call finds them
 
-pub fn cells() -> [u8; CELLS]
+pub fn cells_room() -> [u8; CELLS_ROOM]
     ensures { λ r. ⌜ 60000 ≡ length r ⌝ }
 {
-    [UNTOUCHED; CELLS]
+    [UNTOUCHED; CELLS_ROOM]
 }
 
-pub fn file() -> [u8; FILE]
+pub fn file_room() -> [u8; FILE_ROOM]
     ensures { λ r. ⌜ 600000 ≡ length r ⌝ }
 {
-    [UNTOUCHED; FILE]
+    [UNTOUCHED; FILE_ROOM]
 }
