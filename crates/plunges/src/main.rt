@@ -6,11 +6,13 @@ use listing::ListAnswer;
 // "Its file buffer is 65,536 bytes."
 const FILE: usize = 65536;
 
+const SIDE: usize = refusal::LARGEST_SIDE as usize;
+
 // The cells of the largest plate.
-const CELLS: usize = 57600;
+const CELLS: usize = SIDE * SIDE;
 
 // Kind, width, height and the depths; what follows is not read.
-const INPUT: usize = 57603;
+const INPUT: usize = 3 + CELLS;
 
 fn run(s: &[u8], file: &mut [u8], a: &mut [u8], b: &mut [u8]) {
     let answer = scan::list_scan(s, file, a, b);

@@ -4,7 +4,7 @@ ghost use mathlib.Core.Path.{_≡_};
 ghost use Rattle.jobs.specs.Calls.{ListCall};
 ghost use Rattle.scan.specs.Scan.{byteIn, depths};
 
-// A byte of a scan; "a missing one counts as 0".
+// The byte at a place, of a scan or of other input; "a missing one counts as 0".
 pub fn byte_in(scan: &[u8], i: usize) -> u8
     ensures { λ r. ⌜ r ≡ byteIn (now (scan .entry)) i ⌝ }
 {

@@ -3,17 +3,19 @@ use libc::STDOUT_FILENO;
 use listing::ListAnswer;
 use refusal::Verdict;
 use test_io::UNTOUCHED;
-use test_io::fill;
-use test_io::is_kept;
+use test_io::part;
 use test_io::print_next;
 use test_io::print_refusal;
+use test_io::print_rest;
 use test_io::print_text;
 ghost use mathlib.Core.Path.{_≡_};
 ghost use Prim.Native.Nat.{_≤_};
 ghost use lib.ListN.{length};
 
-// Bytes of a buffer with a byte for each cell, of 241 by 240 too.
-const CELLS: usize = 57840;
+const SIDE: usize = refusal::LARGEST_SIDE as usize;
+
+// Bytes of a buffer with a byte for each cell, also of a plate with one row too many.
+const CELLS: usize = (SIDE + 1) * SIDE;
 
 // Bytes of a buffer that is longer than each file here.
 const LONG: usize = 204000;
@@ -38,21 +40,6 @@ fn plate_of(kind: u8, width: u16, height: u16) -> Plate {
 // The number before, 0 for 0.
 fn before(n: usize) -> usize {
     if n == 0 { 0 } else { n - 1 }
-}
-
-// ---- reliefs of 240 by 240 cells
-
-// Six tiles, each 80 wide and 120 high: depths 1, 46, 91 above 76, 121, 1.
-fn tile_byte(i: usize) -> u8 {
-    ((3 * (i % 240 / 80) + 5 * (i / 28800)) % 11 * 15 + 1) as u8
-}
-
-fn fill_tiles(buf: &mut [u8]) {
-    let mut i = 0;
-    while i < buf.len() {
-        buf[i] = tile_byte(i);
-        i += 1;
-    }
 }
 
 // ---- printing
@@ -80,22 +67,11 @@ fn print_file(plate: Plate, file: &[u8]) {
     test_io::print_bytes(file);
 }
 
-fn print_rest(out: &[u8], from: usize) {
-    if is_kept(out, from) {
-        print_text(b"rest kept\n");
-    } else {
-        print_text(b"rest changed\n");
-    }
-}
-
 // An answer of listing or tidying, and whether the bytes past the file are as before; gives the file's length, 0 if there is none.
 fn print_answer(answer: ListAnswer, out: &[u8]) -> usize {
     match answer {
         ListAnswer::Listed(extent) => {
-            print_text(b"listed");
-            print_next(extent.bytes as u64);
-            print_next(extent.plunges as u64);
-            print_text(b"\n");
+            test_io::print_listed(extent.bytes, extent.plunges);
             print_rest(out, extent.bytes);
             extent.bytes
         }
@@ -112,7 +88,7 @@ fn print_same(file: &[u8], out: &[u8], n: usize) {
     if n == 0 {
         return;
     }
-    let end = test_io::smaller(n, out.len());
+    let end = part(out, n);
     if check::same(file, &out[..end]) {
         print_text(b"same bytes\n");
     } else {
@@ -122,7 +98,7 @@ fn print_same(file: &[u8], out: &[u8], n: usize) {
 
 // ---- buffers
 
-fn cells() -> [u8; CELLS]
+fn cells_room() -> [u8; CELLS]
     ensures { λ r. ⌜ 57840 ≡ length r ⌝ }
 {
     [UNTOUCHED; CELLS]
@@ -161,17 +137,17 @@ fn list_again(
 // The same into an output of some length.
 fn list_within(plate: Plate, relief: &[u8], file: &[u8], room: usize) {
     let mut out = long_room();
-    let mut a = cells();
-    let mut b = cells();
-    let end = test_io::smaller(room, LONG);
+    let mut a = cells_room();
+    let mut b = cells_room();
+    let end = part(&out, room);
     list_again(plate, relief, file, &mut out[..end], &mut a, &mut b);
 }
 
 fn run_tidy(file: &[u8]) {
     let mut out = long_room();
-    let mut a = cells();
-    let mut b = cells();
-    let mut c = cells();
+    let mut a = cells_room();
+    let mut b = cells_room();
+    let mut c = cells_room();
     print_text(b"tidy: ");
     let answer = jobs::tidy(file, &mut out, &mut a, &mut b, &mut c);
     let n = print_answer(answer, &out);
@@ -179,9 +155,9 @@ fn run_tidy(file: &[u8]) {
 }
 
 fn run_check(file: &[u8]) {
-    let mut a = cells();
-    let mut b = cells();
-    let mut c = cells();
+    let mut a = cells_room();
+    let mut b = cells_room();
+    let mut c = cells_room();
     print_text(b"check: ");
     let verdict = jobs::check(file, &mut a, &mut b, &mut c);
     match verdict {
@@ -201,38 +177,45 @@ fn run_listed(plate: Plate, relief: &[u8], file: &[u8]) {
     run_check(file);
 }
 
+// Lists a relief into a file, then makes every call on that.
+fn block_into(plate: Plate, relief: &[u8], file: &mut [u8], a: &mut [u8], b: &mut [u8]) {
+    let n = run_list(plate, relief, file, a, b);
+    let end = part(file, n);
+    run_listed(plate, relief, &file[..end]);
+}
+
 fn run_block(plate: Plate, relief: &[u8]) {
     let mut file = long_room();
-    let mut a = cells();
-    let mut b = cells();
-    let n = run_list(plate, relief, &mut file, &mut a, &mut b);
-    let end = test_io::smaller(n, LONG);
-    run_listed(plate, relief, &file[..end]);
+    let mut a = cells_room();
+    let mut b = cells_room();
+    block_into(plate, relief, &mut file, &mut a, &mut b);
+}
+
+fn run_pattern(plate: Plate, pattern: u8) {
+    let mut relief = cells_room();
+    test_io::fill_relief(&mut relief, pattern, 1, SIDE, SIDE, b"");
+    run_block(plate, &relief);
 }
 
 // "240 by 240 is accepted"
 fn run_largest(kind: u8) {
-    let plate = plate_of(kind, 240, 240);
-    let mut relief = cells();
+    let plate = plate_of(kind, refusal::LARGEST_SIDE, refusal::LARGEST_SIDE);
     print_text(b"block: all depth 1\n");
-    fill(&mut relief, 1);
-    run_block(plate, &relief);
+    run_pattern(plate, test_io::CONSTANT);
     print_text(b"block: six tiles\n");
-    fill_tiles(&mut relief);
-    run_block(plate, &relief);
+    run_pattern(plate, test_io::TILES);
     print_text(b"block: dome\n");
-    test_io::fill_relief(&mut relief, 4, 0, 240, 240, b" ");
-    run_block(plate, &relief);
+    run_pattern(plate, test_io::DOME);
 }
 
 // A side of 241 or 0: no byte of a buffer changes.
 fn run_sides(plate: Plate) {
     print_text(b"block: sides\n");
     print_plate(plate);
-    let relief = cells();
-    let mut out = cells();
-    let mut a = cells();
-    let mut b = cells();
+    let relief = cells_room();
+    let mut out = cells_room();
+    let mut a = cells_room();
+    let mut b = cells_room();
     run_list(plate, &relief, &mut out, &mut a, &mut b);
     print_rest(&a, 0);
     print_rest(&b, 0);

@@ -1,8 +1,12 @@
-// What the programs that run calls on records share: numbers out of bytes, patterns of reliefs, printing.
+// What the test programs share: numbers out of bytes, parts of buffers, patterns of reliefs, printing.
 use libc::STDOUT_FILENO;
+use numbers::smaller;
+use numbers::wide;
 use refusal::Refusal;
+use scan::byte_in;
 ghost use Prim.Native.Nat.{_≤_};
 ghost use lib.ListN.{length};
+ghost use Rattle.io.specs.Counts.{Counts};
 
 // What every output and work buffer holds before a call.
 pub const UNTOUCHED: u8 = 170;
@@ -12,11 +16,6 @@ const SHORT: usize = 64;
 
 // ---- numbers
 
-// The byte at a place, 0 past the end.
-pub fn byte_at(s: &[u8], i: usize) -> u8 {
-    if i < s.len() { s[i] } else { 0 }
-}
-
 pub fn word(high: u8, low: u8) -> u16 {
     (high as u16) * 256 + (low as u16)
 }
@@ -25,48 +24,35 @@ pub fn two_words(high: u16, low: u16) -> u32 {
     (high as u32) * 65536 + (low as u32)
 }
 
-pub fn smaller(a: usize, b: usize) -> usize
-    ensures { λ r. ⌜ r ≤ b ⌝ }
+// How many bytes of a buffer are its first n: n, or all where it has fewer. With it `&buf[..r]` needs no proof.
+pub fn part(buf: &[u8], n: usize) -> usize
+    ensures { λ r. ⌜ Counts r (now (buf .entry)) ⌝ }
 {
-    if a < b { a } else { b }
+    smaller(n, buf.len())
 }
 
-// ---- patterns
+// ---- patterns of reliefs
 
-pub fn fill(buf: &mut [u8], value: u8) {
-    let mut i = 0;
-    while i < buf.len() {
-        buf[i] = value;
-        i += 1;
-    }
-}
+// A pattern's number. The bytes of a literal relief come with the record.
+pub const LITERAL: u8 = 0;
 
-// The first bytes of s, zeros past its end.
-fn copy(buf: &mut [u8], s: &[u8]) {
-    let mut i = 0;
-    while i < buf.len() {
-        buf[i] = byte_at(s, i);
-        i += 1;
-    }
-}
+pub const CONSTANT: u8 = 1;
 
+pub const NOISE: u8 = 2;
+
+pub const COLUMNS: u8 = 3;
+
+pub const DOME: u8 = 4;
+
+pub const TILES: u8 = 5;
+
+// The next state of a linear congruential generator.
 fn next_state(state: u16) -> u16 {
     (((state as u32) * 1103 + 12345) % 65536) as u16
 }
 
 fn high_byte(state: u16) -> u8 {
     (state / 256) as u8
-}
-
-// Noise by a linear congruential generator.
-fn fill_noise(buf: &mut [u8], seed: u8) {
-    let mut state = seed as u16;
-    let mut i = 0;
-    while i < buf.len() {
-        state = next_state(state);
-        buf[i] = high_byte(state);
-        i += 1;
-    }
 }
 
 // The column of a place; the place itself where rows have no cells.
@@ -79,12 +65,8 @@ fn row_of(i: usize, width: usize) -> usize {
 }
 
 // A value in the first 13 columns, 0 elsewhere.
-fn fill_columns(buf: &mut [u8], width: usize, value: u8) {
-    let mut i = 0;
-    while i < buf.len() {
-        buf[i] = if column_of(i, width) < 13 { value } else { 0 };
-        i += 1;
-    }
+fn column_byte(column: usize, value: u8) -> u8 {
+    if column < 13 { value } else { 0 }
 }
 
 // How far one number lies below another, 0 at least.
@@ -109,11 +91,28 @@ fn dome_byte(column: usize, row: usize, width: usize, height: usize) -> u8 {
     ))
 }
 
-fn fill_dome(buf: &mut [u8], width: usize, height: usize) {
-    let mut i = 0;
-    while i < buf.len() {
-        buf[i] = dome_byte(column_of(i, width), row_of(i, width), width, height);
-        i += 1;
+// Six tiles of a plate of 240 by 240 cells, each 80 wide and 120 high: depths 1, 46, 91 above 76, 121, 1.
+fn tile_byte(i: usize) -> u8 {
+    ((3 * (i % 240 / 80) + 5 * (i / 28800)) % 11 * 15 + 1) as u8
+}
+
+// The byte of a relief at a place, where the noise has a state; 0 past the end of a literal one.
+fn relief_byte(
+    i: usize,
+    state: u16,
+    pattern: u8,
+    seed: u8,
+    width: usize,
+    height: usize,
+    source: &[u8],
+) -> u8 {
+    match pattern {
+        LITERAL => byte_in(source, i),
+        CONSTANT => seed,
+        NOISE => high_byte(state),
+        COLUMNS => column_byte(column_of(i, width), seed),
+        TILES => tile_byte(i),
+        _ => dome_byte(column_of(i, width), row_of(i, width), width, height),
     }
 }
 
@@ -126,12 +125,12 @@ pub fn fill_relief(
     height: usize,
     source: &[u8],
 ) {
-    match pattern {
-        0 => copy(buf, source),
-        1 => fill(buf, seed),
-        2 => fill_noise(buf, seed),
-        3 => fill_columns(buf, width, seed),
-        _ => fill_dome(buf, width, height),
+    let mut state = seed as u16;
+    let mut i = 0;
+    while i < buf.len() {
+        state = next_state(state);
+        buf[i] = relief_byte(i, state, pattern, seed, width, height, source);
+        i += 1;
     }
 }
 
@@ -158,16 +157,7 @@ pub fn print_bits(n: u64) {
 }
 
 pub fn print_refusal(refusal: Refusal) {
-    print_text(b"refused");
-    print_next(refusal.number as u64);
-    print_next(refusal.place as u64);
-    print_text(b"\n");
-}
-
-fn wide(b: u8) -> u64
-    ensures { λ r. ⌜ r ≤ 255 ⌝ }
-{
-    b as u64
+    text::print_refusal(STDOUT_FILENO, refusal);
 }
 
 // The bytes in hexadecimal, separated by blanks.
@@ -177,41 +167,40 @@ fn print_whole(buf: &[u8]) {
         if 0 < i {
             print_text(b" ");
         }
-        io::print_hex(STDOUT_FILENO, wide(buf[i]), 2);
+        io::print_hex(STDOUT_FILENO, wide(buf[i]) as u64, 2);
         i += 1;
     }
     print_text(b"\n");
 }
 
-// A byte times a weight from 1 to 251 that changes with its place.
-fn weighted(b: u8, i: usize) -> u64
+// A byte times a weight from 1 to 251 that changes with its place; at place 0 the weight is 1.
+fn weighted(b: u8, i: usize) -> usize
     ensures { λ r. ⌜ r ≤ 65536 ⌝ }
 {
-    wide(b) * ((i % 251 + 1) as u64)
+    wide(b) * (i % 251 + 1)
 }
 
-fn sum_of(buf: &[u8]) -> u64
-    requires { ⌜ length (now buf) ≤ 1048576 ⌝ }
-{
-    let mut sum: u64 = 0;
-    let mut i = 0;
-    while i < buf.len() {
-        sum += wide(buf[i]);
-        i += 1;
-    }
-    sum
+// The sum of the bytes, and of the bytes times their weights.
+struct Sums {
+    plain: usize,
+    weighted: usize,
 }
 
-fn weighted_sum_of(buf: &[u8]) -> u64
+fn sums_of(buf: &[u8]) -> Sums
     requires { ⌜ length (now buf) ≤ 1048576 ⌝ }
 {
-    let mut sum: u64 = 0;
+    let mut plain = 0;
+    let mut sum = 0;
     let mut i = 0;
     while i < buf.len() {
+        plain += weighted(buf[i], 0);
         sum += weighted(buf[i], i);
         i += 1;
     }
-    sum
+    Sums {
+        plain,
+        weighted: sum,
+    }
 }
 
 // A few bytes whole, of more two sums; nothing of more than 1,048,576.
@@ -221,9 +210,10 @@ pub fn print_bytes(buf: &[u8]) {
         return;
     }
     if buf.len() <= 1048576 {
+        let sums = sums_of(buf);
         print_text(b"sums");
-        print_next(sum_of(buf));
-        print_next(weighted_sum_of(buf));
+        print_next(sums.plain as u64);
+        print_next(sums.weighted as u64);
         print_text(b"\n");
     }
 }
@@ -238,4 +228,32 @@ pub fn is_kept(buf: &[u8], from: usize) -> bool {
         i += 1;
     }
     true
+}
+
+// Whether both are so.
+pub fn both(a: bool, b: bool) -> bool {
+    if a { b } else { false }
+}
+
+// What was looked at, and whether it is as before.
+pub fn print_kept(what: &[u8], kept: bool) {
+    print_text(what);
+    if kept {
+        print_text(b" kept\n");
+    } else {
+        print_text(b" changed\n");
+    }
+}
+
+// Whether the bytes of an output from a place on are as before.
+pub fn print_rest(out: &[u8], from: usize) {
+    print_kept(b"rest", is_kept(out, from));
+}
+
+// A listing's answer: the file's bytes and its plunges.
+pub fn print_listed(bytes: usize, plunges: usize) {
+    print_text(b"listed");
+    print_next(bytes as u64);
+    print_next(plunges as u64);
+    print_text(b"\n");
 }

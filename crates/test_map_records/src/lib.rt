@@ -4,7 +4,106 @@ use erosion_maps::VolumeAnswer;
 use libc::STDIN_FILENO;
 use refusal::Verdict;
 use residue_scores::Score;
-use test_records::Record;
+use scan::byte_in;
+use test_io::part;
+use test_io::print_text;
+use test_io::word;
+use test_records::CELLS_ROOM;
+use test_records::cells_room;
+use test_records::size_of;
+
+// The fixed bytes of a record.
+const FIXED: usize = 19;
+
+// A test case of the map calls: a call with its arguments, the relief's pattern, and the length of each buffer.
+struct Record {
+    op: u8,
+    kind: u8,
+    width: u16,
+    height: u16,
+    x: u16,
+    y: u16,
+    z: u8,
+    level: u8,
+    pattern: u8,
+    seed: u8,
+    relief: u16,
+    output: u16,
+    work: u16,
+}
+
+// ---- reading
+
+// The record at the start of some bytes; bytes that are missing count as 0. A level is the low byte of x.
+fn parse(s: &[u8]) -> Record {
+    Record {
+        op: byte_in(s, 0),
+        kind: byte_in(s, 1),
+        width: word(byte_in(s, 2), byte_in(s, 3)),
+        height: word(byte_in(s, 4), byte_in(s, 5)),
+        x: word(byte_in(s, 6), byte_in(s, 7)),
+        y: word(byte_in(s, 8), byte_in(s, 9)),
+        z: byte_in(s, 10),
+        level: byte_in(s, 7),
+        pattern: byte_in(s, 11),
+        seed: byte_in(s, 12),
+        relief: word(byte_in(s, 13), byte_in(s, 14)),
+        output: word(byte_in(s, 15), byte_in(s, 16)),
+        work: word(byte_in(s, 17), byte_in(s, 18)),
+    }
+}
+
+// How many bytes a record takes, its literal relief included.
+fn taken(record: Record) -> usize {
+    FIXED + test_records::literal(record.pattern, record.relief)
+}
+
+// Whether the buffers have as many bytes as a record asks.
+fn fits(record: Record) -> bool {
+    if CELLS_ROOM < size_of(record.relief) {
+        return false;
+    }
+    if CELLS_ROOM < size_of(record.output) {
+        return false;
+    }
+    size_of(record.work) <= CELLS_ROOM
+}
+
+// ---- printing
+
+fn print_call(record: Record) {
+    test_io::print_number(record.op as u64);
+    test_io::print_next(record.kind as u64);
+    test_io::print_next(record.width as u64);
+    test_io::print_next(record.height as u64);
+    print_text(b" : ");
+}
+
+fn print_value(value: u64) {
+    print_text(b"value");
+    test_io::print_next(value);
+    print_text(b"\n");
+}
+
+fn print_verdict(verdict: Verdict) {
+    match verdict {
+        Verdict::Accepted => print_text(b"ok\n"),
+        Verdict::Refused(refusal) => test_io::print_refusal(refusal),
+    }
+}
+
+// After a refusal, whether the work buffers are as before.
+fn print_work(verdict: Verdict, a: &[u8], b: &[u8]) {
+    match verdict {
+        Verdict::Accepted => {}
+        Verdict::Refused(_) => {
+            let kept = test_io::both(test_io::is_kept(a, 0), test_io::is_kept(b, 0));
+            test_io::print_kept(b"work", kept);
+        }
+    }
+}
+
+// ---- calls
 
 fn run_cell(record: Record, relief: &[u8]) {
     let answer = clearance_cell::clearance_of(
@@ -17,7 +116,7 @@ fn run_cell(record: Record, relief: &[u8]) {
         record.y,
     );
     match answer {
-        CellAnswer::Cleared(clearance) => test_records::print_value(clearance.0 as u64),
+        CellAnswer::Cleared(clearance) => print_value(clearance.0 as u64),
         CellAnswer::NotCleared(refusal) => test_io::print_refusal(refusal),
     }
 }
@@ -25,7 +124,7 @@ fn run_cell(record: Record, relief: &[u8]) {
 fn run_volume(record: Record, relief: &[u8]) {
     let answer = erosion_maps::volume(relief, record.width, record.height);
     match answer {
-        VolumeAnswer::Volume(volume) => test_records::print_value(volume as u64),
+        VolumeAnswer::Volume(volume) => print_value(volume as u64),
         VolumeAnswer::NoVolume(refusal) => test_io::print_refusal(refusal),
     }
 }
@@ -43,13 +142,17 @@ fn level_call(record: Record, relief: &[u8], out: &mut [u8]) -> Verdict {
     }
 }
 
-fn run_level(record: Record, relief: &[u8], out: &mut [u8]) {
+// Makes the call into an output, and prints what comes back.
+fn level_into(record: Record, relief: &[u8], out: &mut [u8]) {
     let verdict = level_call(record, relief, out);
-    match verdict {
-        Verdict::Accepted => test_io::print_text(b"ok\n"),
-        Verdict::Refused(refusal) => test_io::print_refusal(refusal),
-    }
+    print_verdict(verdict);
     test_io::print_bytes(out);
+}
+
+fn run_level(record: Record, relief: &[u8]) {
+    let mut out = cells_room();
+    let output = part(&out, size_of(record.output));
+    level_into(record, relief, &mut out[..output]);
 }
 
 fn score_of(op: u8) -> Score {
@@ -75,124 +178,85 @@ fn series_call(
     }
 }
 
-fn run_series(record: Record, relief: &[u8], out: &mut [u8], a: &mut [u8], b: &mut [u8]) {
+// Makes the call into an output, with work buffers, and prints what comes back.
+fn series_into(record: Record, relief: &[u8], out: &mut [u8], a: &mut [u8], b: &mut [u8]) {
     let verdict = series_call(record, relief, out, a, b);
-    match verdict {
-        Verdict::Accepted => {
-            test_io::print_text(b"ok\n");
-            test_io::print_bytes(out);
-        }
-        Verdict::Refused(refusal) => {
-            test_io::print_refusal(refusal);
-            test_io::print_bytes(out);
-            test_records::print_work(a, b);
-        }
-    }
+    print_verdict(verdict);
+    test_io::print_bytes(out);
+    print_work(verdict, a, b);
 }
 
-fn run_call(record: Record, relief: &[u8], out: &mut [u8], a: &mut [u8], b: &mut [u8]) {
-    test_records::print_call(record);
-    let op = record.op;
-    match op {
-        1 => run_cell(record, relief),
-        2 => run_level(record, relief, out),
-        3 => run_level(record, relief, out),
-        4 => run_level(record, relief, out),
-        9 => run_volume(record, relief),
-        _ => run_series(record, relief, out, a, b),
-    }
-}
-
-// The call on buffers that have the record's lengths.
-fn run_on(record: Record, s: &[u8], relief: &mut [u8], out: &mut [u8], a: &mut [u8], b: &mut [u8]) {
-    test_records::make_relief(record, s, relief);
-    test_io::fill(out, test_io::UNTOUCHED);
-    test_io::fill(a, test_io::UNTOUCHED);
-    test_io::fill(b, test_io::UNTOUCHED);
-    run_call(record, relief, out, a, b);
-}
-
-// The call on the first bytes of each buffer; none if a buffer has too few.
-fn run_record(
-    record: Record,
-    s: &[u8],
-    relief: &mut [u8],
-    out: &mut [u8],
-    a: &mut [u8],
-    b: &mut [u8],
-) {
-    let cells = test_records::size_of(record.relief);
-    let output = test_records::size_of(record.output);
-    let work = test_records::size_of(record.work);
-    if relief.len() < cells {
-        return;
-    }
-    if out.len() < output {
-        return;
-    }
-    if a.len() < work {
-        return;
-    }
-    if b.len() < work {
-        return;
-    }
-    run_on(
+fn run_series(record: Record, relief: &[u8]) {
+    let mut out = cells_room();
+    let mut a = cells_room();
+    let mut b = cells_room();
+    let output = part(&out, size_of(record.output));
+    let first = part(&a, size_of(record.work));
+    let second = part(&b, size_of(record.work));
+    series_into(
         record,
-        s,
-        &mut relief[..cells],
+        relief,
         &mut out[..output],
-        &mut a[..work],
-        &mut b[..work],
+        &mut a[..first],
+        &mut b[..second],
     );
 }
 
-// Runs the record at a place and gives the bytes it takes; 0 if none is whole there or a length is too large.
-fn run_at(
-    s: &[u8],
-    at: usize,
-    relief: &mut [u8],
-    out: &mut [u8],
-    a: &mut [u8],
-    b: &mut [u8],
-) -> usize {
-    if s.len() < at {
+fn run_call(record: Record, relief: &[u8]) {
+    print_call(record);
+    let op = record.op;
+    match op {
+        1 => run_cell(record, relief),
+        2 => run_level(record, relief),
+        3 => run_level(record, relief),
+        4 => run_level(record, relief),
+        9 => run_volume(record, relief),
+        _ => run_series(record, relief),
+    }
+}
+
+// ---- records
+
+// The call on a relief that is filled as the record says; source has its literal bytes.
+fn run_filled(record: Record, source: &[u8], relief: &mut [u8]) {
+    let width = size_of(record.width);
+    let height = size_of(record.height);
+    test_io::fill_relief(relief, record.pattern, record.seed, width, height, source);
+    run_call(record, relief);
+}
+
+fn run_record(record: Record, source: &[u8]) {
+    let mut relief = cells_room();
+    let cells = part(&relief, size_of(record.relief));
+    run_filled(record, source, &mut relief[..cells]);
+}
+
+// Runs the record at the start of some bytes and gives the bytes it takes; 0 if it is not whole or a buffer is too short for it.
+fn run_first(s: &[u8]) -> usize {
+    let record = parse(s);
+    let count = taken(record);
+    if s.len() < count {
         return 0;
     }
-    let rest = &s[at..];
-    let record = test_records::parse(rest);
-    let count = test_records::taken(record);
-    if rest.len() < count {
+    if !fits(record) {
         return 0;
     }
-    if !test_records::fits(record) {
-        return 0;
-    }
-    run_record(record, rest, relief, out, a, b);
+    run_record(record, test_records::between(s, FIXED, count));
     count
 }
 
-// One record after the other.
-fn run_records(s: &[u8], relief: &mut [u8], out: &mut [u8], a: &mut [u8], b: &mut [u8]) {
+// One record after the other; it ends at one that is not whole or asks for more than a buffer has.
+fn run_records(s: &[u8]) {
     let mut at = 0;
     while at < s.len() {
-        let count = run_at(s, at, relief, out, a, b);
-        if count == 0 {
-            return;
-        }
-        if s.len() - at < count {
-            return;
-        }
-        at += count;
+        let count = run_first(test_records::between(s, at, s.len()));
+        at = test_records::next(s, at, count);
     }
 }
 
 // Runs the records of the standard input.
 pub fn run_input() {
-    let mut buffer = io::large_buffer();
-    let mut relief = test_records::room();
-    let mut out = test_records::room();
-    let mut a = test_records::room();
-    let mut b = test_records::room();
-    let n = io::read_full(STDIN_FILENO, &mut buffer);
-    run_records(&buffer[..n], &mut relief, &mut out, &mut a, &mut b);
+    let mut input = io::large_buffer();
+    let n = io::read_full(STDIN_FILENO, &mut input);
+    run_records(&input[..n]);
 }

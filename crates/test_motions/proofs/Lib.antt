@@ -1,2 +1,2 @@
--- The laws that the proofs of motion_runs cite.
+-- The laws that the proofs of test_motions cite.
 pub mod Floats

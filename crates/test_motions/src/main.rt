@@ -4,15 +4,17 @@ use motion::Motion;
 use motion::MotionAnswer;
 use motion::Motions;
 use motion::Scale;
-use test_io::byte_at;
+use scan::byte_in;
 use test_io::print_text;
 use test_io::two_words;
 use test_io::word;
+use test_records::between;
+use test_records::size_of;
 ghost use mathlib.Core.Path.{_≡_};
 ghost use Prim.Native.Nat.{_≤_};
 ghost use lib.Ieee.{binary64, nanBits};
 
-// The bytes of a record before its file: the file's length, the plunge's number, and three floats.
+// The bytes of a record, which is a test case of the motion call, before its file: the file's length, the plunge's number, and three floats.
 const FIXED: usize = 34;
 
 // ---- reading
@@ -22,12 +24,12 @@ fn number_at(s: &[u8], at: usize) -> u64
     requires { ⌜ at ≤ 1000 ⌝ }
 {
     let a = two_words(
-        word(byte_at(s, at), byte_at(s, at + 1)),
-        word(byte_at(s, at + 2), byte_at(s, at + 3)),
+        word(byte_in(s, at), byte_in(s, at + 1)),
+        word(byte_in(s, at + 2), byte_in(s, at + 3)),
     );
     let b = two_words(
-        word(byte_at(s, at + 4), byte_at(s, at + 5)),
-        word(byte_at(s, at + 6), byte_at(s, at + 7)),
+        word(byte_in(s, at + 4), byte_in(s, at + 5)),
+        word(byte_in(s, at + 6), byte_in(s, at + 7)),
     );
     (a as u64) * 4294967296 + (b as u64)
 }
@@ -62,7 +64,7 @@ fn scale_in(s: &[u8]) -> Scale {
 
 // How many bytes a record takes, its file included.
 fn taken(s: &[u8]) -> usize {
-    FIXED + (word(byte_at(s, 0), byte_at(s, 1)) as usize)
+    FIXED + size_of(word(byte_in(s, 0), byte_in(s, 1)))
 }
 
 // ---- printing
@@ -119,13 +121,14 @@ fn run_call(file: &[u8], i: usize, scale: Scale) {
 // Runs the record at the start of some bytes and gives the bytes it takes; 0 if it is not whole.
 fn run_first(s: &[u8]) -> usize {
     let count = taken(s);
-    if count < FIXED {
-        return 0;
-    }
     if s.len() < count {
         return 0;
     }
-    run_call(&s[FIXED..count], number_at(s, 2) as usize, scale_in(s));
+    run_call(
+        between(s, FIXED, count),
+        number_at(s, 2) as usize,
+        scale_in(s),
+    );
     count
 }
 
@@ -133,14 +136,8 @@ fn run_first(s: &[u8]) -> usize {
 fn run_records(s: &[u8]) {
     let mut at = 0;
     while at < s.len() {
-        let count = run_first(&s[at..]);
-        if count == 0 {
-            return;
-        }
-        if s.len() - at < count {
-            return;
-        }
-        at += count;
+        let count = run_first(between(s, at, s.len()));
+        at = test_records::next(s, at, count);
     }
 }
 

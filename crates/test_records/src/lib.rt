@@ -1,119 +1,72 @@
-// Records of the map calls: a call with its arguments and the relief that it is made on, read from bytes.
-use test_io::byte_at;
-use test_io::print_text;
-use test_io::word;
+// From record to record of a test program's input, and the buffers that records ask for.
+// A record is one test case: a call with its arguments, the lengths of its buffers, and the bytes of its relief or file.
+use refusal::LARGEST_SIDE;
+use test_io::UNTOUCHED;
+ghost use Prim.Native.Nat.{_<_, _≤_};
 ghost use mathlib.Core.Path.{_≡_};
 ghost use lib.ListN.{length};
 
-// The fixed bytes of a record.
-const FIXED: usize = 19;
+const SIDE: usize = LARGEST_SIDE as usize;
 
-// The bytes of each buffer; a record that asks for more ends the program.
-pub const SIZE: usize = 60000;
+// Bytes of a buffer with a byte for each cell: ten rows more than the largest plate has, since records ask for surplus bytes
+// and for buffers of plates that are too large.
+pub const CELLS_ROOM: usize = SIDE * (SIDE + 10);
 
-// A call with its arguments, and the relief that it is made on.
-pub struct Record {
-    pub op: u8,
-    pub kind: u8,
-    pub width: u16,
-    pub height: u16,
-    pub x: u16,
-    pub y: u16,
-    pub z: u8,
-    pub level: u8,
-    pub pattern: u8,
-    pub seed: u8,
-    pub relief: u16,
-    pub output: u16,
-    pub work: u16,
-}
+// Bytes of a buffer that holds a file; the longest that is asked for.
+pub const FILE_ROOM: usize = 10 * CELLS_ROOM;
 
-// ---- reading
+// ---- places
 
-// The record at the start of some bytes; bytes that are missing count as 0. A level is the low byte of x.
-pub fn parse(s: &[u8]) -> Record {
-    Record {
-        op: byte_at(s, 0),
-        kind: byte_at(s, 1),
-        width: word(byte_at(s, 2), byte_at(s, 3)),
-        height: word(byte_at(s, 4), byte_at(s, 5)),
-        x: word(byte_at(s, 6), byte_at(s, 7)),
-        y: word(byte_at(s, 8), byte_at(s, 9)),
-        z: byte_at(s, 10),
-        level: byte_at(s, 7),
-        pattern: byte_at(s, 11),
-        seed: byte_at(s, 12),
-        relief: word(byte_at(s, 13), byte_at(s, 14)),
-        output: word(byte_at(s, 15), byte_at(s, 16)),
-        work: word(byte_at(s, 17), byte_at(s, 18)),
+// The bytes from one place to another; none where they are not all there.
+pub fn between(s: &[u8], from: usize, to: usize) -> &[u8] {
+    if to < from {
+        return &s[s.len()..];
     }
-}
-
-// How many bytes a record takes, its literal relief included.
-pub fn taken(record: Record) -> usize {
-    if record.pattern == 0 {
-        FIXED + (record.relief as usize)
-    } else {
-        FIXED
+    if s.len() < to {
+        return &s[s.len()..];
     }
+    &s[from..to]
 }
 
-// ---- reliefs
-
-// The bytes after a record's fixed ones, or a pattern.
-pub fn make_relief(record: Record, s: &[u8], buf: &mut [u8]) {
-    let width = record.width as usize;
-    let height = record.height as usize;
-    let start = test_io::smaller(FIXED, s.len());
-    test_io::fill_relief(buf, record.pattern, record.seed, width, height, &s[start..]);
-}
-
-// ---- printing
-
-pub fn print_call(record: Record) {
-    test_io::print_number(record.op as u64);
-    test_io::print_next(record.kind as u64);
-    test_io::print_next(record.width as u64);
-    test_io::print_next(record.height as u64);
-    print_text(b" : ");
-}
-
-pub fn print_value(value: u64) {
-    print_text(b"value");
-    test_io::print_next(value);
-    print_text(b"\n");
-}
-
-pub fn print_work(a: &[u8], b: &[u8]) {
-    if test_io::is_kept(a, 0) {
-        if test_io::is_kept(b, 0) {
-            print_text(b"work kept\n");
-            return;
-        }
+// Where the next record begins, if the one at a place takes count bytes; the input's end if it takes none, or more than there are.
+pub fn next(s: &[u8], at: usize, count: usize) -> usize
+    requires { ⌜ at < length (now s) ⌝ }
+    ensures { λ r. ⌜ at < r ⌝ }
+{
+    if count == 0 {
+        return s.len();
     }
-    print_text(b"work changed\n");
+    if s.len() - at < count {
+        return s.len();
+    }
+    at + count
 }
 
 // ---- lengths
 
-pub fn size_of(length: u16) -> usize {
+pub fn size_of(length: u16) -> usize
+    ensures { λ r. ⌜ r ≤ 65535 ⌝ }
+{
     length as usize
 }
 
-// Whether a record's lengths fit the buffers.
-pub fn fits(record: Record) -> bool {
-    if SIZE < size_of(record.relief) {
-        return false;
-    }
-    if SIZE < size_of(record.output) {
-        return false;
-    }
-    size_of(record.work) <= SIZE
+// How many bytes a record has behind its fixed ones: those of its relief or file where no pattern makes it.
+pub fn literal(pattern: u8, length: u16) -> usize
+    ensures { λ r. ⌜ r ≤ 65535 ⌝ }
+{
+    if pattern == 0 { size_of(length) } else { 0 }
 }
 
-// A buffer of zeros.
-pub fn room() -> [u8; SIZE]
+// ---- buffers, as every call finds them
+
+pub fn cells_room() -> [u8; CELLS_ROOM]
     ensures { λ r. ⌜ 60000 ≡ length r ⌝ }
 {
-    [0; SIZE]
+    [UNTOUCHED; CELLS_ROOM]
+}
+
+pub fn file_room() -> [u8; FILE_ROOM]
+    ensures { λ r. ⌜ 600000 ≡ length r ⌝ }
+{
+    [UNTOUCHED; FILE_ROOM]
 }

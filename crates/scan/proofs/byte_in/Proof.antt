@@ -2,8 +2,6 @@
 use borrow.Author.Needs.{needs}
 use Rattle.scan.proofs.byte_in.Statement.{statement}
 use Rattle.scan.proofs.byte_in.Tie as tie
-use Rattle.scan.proofs.byte_in.Reads as reads
-use Rattle.scan.proofs.byte_in.Lts as lts
 use mathlib.Core.Path.{sym}
 use native.Mathlib.Omega.{arith}
 use lib.ListN.{List·getD-eq-default}

@@ -2,8 +2,6 @@
 use borrow.Author.Needs.{needs}
 use Rattle.scan.proofs.depths.Statement.{statement}
 use Rattle.scan.proofs.depths.Tie as tie
-use Rattle.scan.proofs.depths.Reads as reads
-use Rattle.scan.proofs.depths.Lts as lts
 use native.Mathlib.Omega.{arith}
 use Rattle.scan.proofs.Parts.{part-rest, part-none}
 

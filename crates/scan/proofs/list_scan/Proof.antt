@@ -4,11 +4,6 @@ use Rattle.jobs.specs.Calls.{ListCall}
 use Rattle.scan.proofs.Parts.{same-four}
 use Rattle.scan.proofs.list_scan.Statement.{statement}
 use Rattle.scan.proofs.list_scan.Tie as tie
-use Rattle.scan.proofs.list_scan.Reads as reads
-use Rattle.scan.proofs.list_scan.Lts as lts
-use Rattle.jobs.proofs.list.Reads as list-reads
-use Rattle.scan.proofs.byte_in.Reads as byte-in-reads
-use Rattle.scan.proofs.depths.Reads as depths-reads
 
 byte-in-requires : tie.Need-byte-in-requires
 byte-in-requires c κs = search needs

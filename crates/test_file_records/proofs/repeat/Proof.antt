@@ -18,8 +18,8 @@ loop-holds c = search needs
 repeated-place-requires : tie.Need-repeated-place-requires Inv-loop μ-loop
 repeated-place-requires c κs = search needs
 
-byte-at-requires : tie.Need-byte-at-requires Inv-loop μ-loop
-byte-at-requires c κs = search needs
+byte-in-requires : tie.Need-byte-in-requires Inv-loop μ-loop
+byte-in-requires c κs = search needs
 
 slice-write-buf : tie.Need-slice-write-buf Inv-loop μ-loop
 slice-write-buf c = search needs
@@ -47,7 +47,7 @@ repeat-spec =
     μ-loop
     loop-holds
     repeated-place-requires
-    byte-at-requires
+    byte-in-requires
     slice-write-buf
     add-i
     loop-less

@@ -14,13 +14,13 @@ add-result c = search needs
 
 mul-result : tie.Need-mul-result
 mul-result c =
-    let p : c .wide .result * (c .before .args .i % 251 + 1) ≤ 255 * 251 = mul-le-mul {m₂ = 251} (c .wide .ensures)
-    (omega arith) in omega arith
+    let b : c .wide .result ≤ 255 = omega arith in
+    let p : c .wide .result * (c .before .args .i % 251 + 1) ≤ 255 * 251 = mul-le-mul {m₂ = 251} b (omega arith) in omega arith
 
 returns : tie.Need-returns
 returns c =
-    let p : c .wide .result * (c .before .args .i % 251 + 1) ≤ 255 * 251 = mul-le-mul {m₂ = 251} (c .wide .ensures)
-    (omega arith) in omega arith
+    let b : c .wide .result ≤ 255 = omega arith in
+    let p : c .wide .result * (c .before .args .i % 251 + 1) ≤ 255 * 251 = mul-le-mul {m₂ = 251} b (omega arith) in omega arith
 
 pub weighted-spec : {M : Type 1} → statement M
 weighted-spec = tie.close (tie.spec wide-requires add-result mul-result returns)

@@ -1,59 +1,27 @@
--- The buffers keep their lengths; each record takes some bytes.
+-- The next record begins behind this one.
 use Prim.Native.Nat.{_-_}
-use mathlib.Core.Path.{_≡_}
 use lib.ListN.{length}
 use borrow.Author.Needs.{needs}
 use Rattle.test_map_records.proofs.run_records.Statement.{statement}
 use Rattle.test_map_records.proofs.run_records.Tie as tie
 
 abbrev Inv-loop : tie.InvT-loop
-Inv-loop s relief₀ out₀ a₀ b₀ at₀ relief out a b at = (length relief ≡ length relief₀) × (length out ≡ length out₀) × (length a ≡ length a₀)
-    × (length b ≡ length b₀)
+Inv-loop s at₀ at = Unit {0}
 
 abbrev μ-loop : tie.MeasureT-loop
-μ-loop s relief₀ out₀ a₀ b₀ at₀ relief out a b at = length s - at
+μ-loop s at₀ at = length s - at
 
 loop-holds : tie.Need-loop-holds Inv-loop μ-loop
 loop-holds c = search needs
 
-run-at-requires : tie.Need-run-at-requires Inv-loop μ-loop
-run-at-requires c κs = search needs
+between-requires : tie.Need-between-requires Inv-loop μ-loop
+between-requires c κs = search needs
 
-same-length : tie.Need-same-length Inv-loop μ-loop
-same-length c = search needs
+run-first-requires : tie.Need-run-first-requires Inv-loop μ-loop
+run-first-requires c κs = search needs
 
-same-length-2 : tie.Need-same-length-2 Inv-loop μ-loop
-same-length-2 c = search needs
-
-same-length-3 : tie.Need-same-length-3 Inv-loop μ-loop
-same-length-3 c = search needs
-
-same-length-4 : tie.Need-same-length-4 Inv-loop μ-loop
-same-length-4 c = search needs
-
-returns : tie.Need-returns Inv-loop μ-loop
-returns c = search needs
-
-sub-if2 : tie.Need-sub-if2 Inv-loop μ-loop
-sub-if2 c = search needs
-
-same-length-5 : tie.Need-same-length-5 Inv-loop μ-loop
-same-length-5 c = search needs
-
-same-length-6 : tie.Need-same-length-6 Inv-loop μ-loop
-same-length-6 c = search needs
-
-same-length-7 : tie.Need-same-length-7 Inv-loop μ-loop
-same-length-7 c = search needs
-
-same-length-8 : tie.Need-same-length-8 Inv-loop μ-loop
-same-length-8 c = search needs
-
-returns-2 : tie.Need-returns-2 Inv-loop μ-loop
-returns-2 c = search needs
-
-add-at : tie.Need-add-at Inv-loop μ-loop
-add-at c = search needs
+next-requires : tie.Need-next-requires Inv-loop μ-loop
+next-requires c κs = search needs
 
 loop-less : tie.Need-loop-less Inv-loop μ-loop
 loop-less c = search needs
@@ -61,20 +29,8 @@ loop-less c = search needs
 loop-again : tie.Need-loop-again Inv-loop μ-loop
 loop-again c = search needs
 
-same-length-9 : tie.Need-same-length-9 Inv-loop μ-loop
-same-length-9 c = search needs
-
-same-length-10 : tie.Need-same-length-10 Inv-loop μ-loop
-same-length-10 c = search needs
-
-same-length-11 : tie.Need-same-length-11 Inv-loop μ-loop
-same-length-11 c = search needs
-
-same-length-12 : tie.Need-same-length-12 Inv-loop μ-loop
-same-length-12 c = search needs
-
-returns-3 : tie.Need-returns-3 Inv-loop μ-loop
-returns-3 c = search needs
+returns : tie.Need-returns Inv-loop μ-loop
+returns c = search needs
 
 pub run-records-spec : {M : Type 1} → statement M
 run-records-spec =
@@ -83,23 +39,9 @@ run-records-spec =
     Inv-loop
     μ-loop
     loop-holds
-    run-at-requires
-    same-length
-    same-length-2
-    same-length-3
-    same-length-4
-    returns
-    sub-if2
-    same-length-5
-    same-length-6
-    same-length-7
-    same-length-8
-    returns-2
-    add-at
+    between-requires
+    run-first-requires
+    next-requires
     loop-less
     loop-again
-    same-length-9
-    same-length-10
-    same-length-11
-    same-length-12
-    returns-3)
+    returns)

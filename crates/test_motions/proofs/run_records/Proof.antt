@@ -1,12 +1,12 @@
--- Each record takes some bytes.
-use Prim.Native.Nat.{_-_, _≤_}
+-- The next record begins behind this one.
+use Prim.Native.Nat.{_-_}
 use lib.ListN.{length}
 use borrow.Author.Needs.{needs}
 use Rattle.test_motions.proofs.run_records.Statement.{statement}
 use Rattle.test_motions.proofs.run_records.Tie as tie
 
 abbrev Inv-loop : tie.InvT-loop
-Inv-loop s at₀ at = at ≤ length s
+Inv-loop s at₀ at = Unit {0}
 
 abbrev μ-loop : tie.MeasureT-loop
 μ-loop s at₀ at = length s - at
@@ -14,29 +14,14 @@ abbrev μ-loop : tie.MeasureT-loop
 loop-holds : tie.Need-loop-holds Inv-loop μ-loop
 loop-holds c = search needs
 
-sub-run-first : tie.Need-sub-run-first Inv-loop μ-loop
-sub-run-first c = search needs
-
-part-run-first-start : tie.Need-part-run-first-start Inv-loop μ-loop
-part-run-first-start c = search needs
-
-part-run-first-end : tie.Need-part-run-first-end Inv-loop μ-loop
-part-run-first-end c = search needs
+between-requires : tie.Need-between-requires Inv-loop μ-loop
+between-requires c κs = search needs
 
 run-first-requires : tie.Need-run-first-requires Inv-loop μ-loop
 run-first-requires c κs = search needs
 
-returns : tie.Need-returns Inv-loop μ-loop
-returns c = search needs
-
-sub-if2 : tie.Need-sub-if2 Inv-loop μ-loop
-sub-if2 c = search needs
-
-returns-2 : tie.Need-returns-2 Inv-loop μ-loop
-returns-2 c = search needs
-
-add-at : tie.Need-add-at Inv-loop μ-loop
-add-at c = search needs
+next-requires : tie.Need-next-requires Inv-loop μ-loop
+next-requires c κs = search needs
 
 loop-less : tie.Need-loop-less Inv-loop μ-loop
 loop-less c = search needs
@@ -44,8 +29,8 @@ loop-less c = search needs
 loop-again : tie.Need-loop-again Inv-loop μ-loop
 loop-again c = search needs
 
-returns-3 : tie.Need-returns-3 Inv-loop μ-loop
-returns-3 c = search needs
+returns : tie.Need-returns Inv-loop μ-loop
+returns c = search needs
 
 pub run-records-spec : {M : Type 1} → statement M
 run-records-spec =
@@ -54,14 +39,9 @@ run-records-spec =
     Inv-loop
     μ-loop
     loop-holds
-    sub-run-first
-    part-run-first-start
-    part-run-first-end
+    between-requires
     run-first-requires
-    returns
-    sub-if2
-    returns-2
-    add-at
+    next-requires
     loop-less
     loop-again
-    returns-3)
+    returns)

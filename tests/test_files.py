@@ -1,58 +1,29 @@
 #!/usr/bin/env python3
-"""Makes the stdin and the expected stdout of crates/file_runs (small plates) and crates/file_plates (large ones), by document 01.
+"""Makes the stdin and the expected stdout of crates/test_files (small plates) and crates/test_files_large (large ones), by document 01.
 
-    python3 tests/file_runs.py           writes the four files
-    python3 tests/file_runs.py --check   only compares: ends with 1 if a file differs
+    python3 tests/test_files.py           writes the four files
+    python3 tests/test_files.py --check   only compares: ends with 1 if a file differs
 
 Its author had read the library's source, so it is another computation and not another team's implementation. The records are two stores since
-'rt try' ends its interpreter after 10 million steps, and every other run at a time limit: file_runs stays below both, file_plates does not.
+'rt try' ends its interpreter after 10 million steps, and every other run at a time limit: test_files stays below both, test_files_large does not.
 
 How each answer is computed (cells off the plate have depth 0 throughout):
   drawing  plates of at most 100 cells: each cell against every plunge, by distance. All plates: the balls are painted in
            the order of their depths, the deepest last. Both ways are compared on the small plates.
   listing  plates of at most 100 cells: of all plunges that fit the relief, those inside no other, where a ball is the set of its cells;
-           and the sentence of document 01 with rungs as the lowest depth over every cell of the ball. All plates: that sentence with
-           rungs from windows, again and again, and the list must draw the relief. All ways are compared.
+           and the sentence of document 01 with erosions (its rungs) as the lowest depth over every cell of the ball. All plates: that
+           sentence with erosions from windows, again and again, and the list must draw the relief. All ways are compared.
   reading  field by field, as the table of refusals says.
   tidying  drawing, then listing. The check compares the bytes with the tidied file's.
 """
 import sys
 
-from records import COLUMNS, CONSTANT, DOME, LITERAL, NOISE, patterned, stored
+from plates import (LARGEST_REACH, LAST_EROSION, SMALL, ball, ball_on_plate, distance, each_cell, eroded, eroded_by_balls,
+                    highest_near, known_kind, sides_fit)
+from plunge_files import EXAMPLE, Refused, end_of, field, file_of, read
+from records import COLUMNS, CONSTANT, DOME, LITERAL, NOISE, patterned, refused, shown, stored
 
 READ, DRAW, LIST, TIDY, CHECK, CHAIN, REPEAT, EACH = range(1, 9)
-LAST_RUNG = 120
-LARGEST_REACH = 119
-SMALL = 100
-
-
-class Refused(Exception):
-    """A refusal: its number and its place."""
-
-
-# ---- distance, balls, neighbours
-
-def distance(kind, x, y, u, v):
-    across, down = abs(x - u), abs(y - v)
-    return across + down if kind == 4 else max(across, down)
-
-
-def ball(kind, x, y, reach):
-    return [(u, v) for v in range(y - reach, y + reach + 1) for u in range(x - reach, x + reach + 1)
-            if distance(kind, x, y, u, v) <= reach]
-
-
-def on_plate(w, h, x, y):
-    return 0 <= x < w and 0 <= y < h
-
-
-def each_cell(w, h):
-    return ((x, y) for y in range(h) for x in range(w))
-
-
-def ball_on_plate(w, h, x, y, reach):
-    """Either kind's ball holds the four cells straight left, right, up and down, and leaves the plate where one of them does."""
-    return all(on_plate(w, h, x + reach * dx, y + reach * dy) for dx, dy in ((1, 0), (-1, 0), (0, 1), (0, -1)))
 
 
 # ---- drawing
@@ -100,37 +71,19 @@ def listed_as_maximal(kind, w, h, plate):
             if not any(p != q and depth <= deep and cells <= more for more, deep, q in fitting)]
 
 
-def rung_by_balls(kind, w, h, plate, k):
-    def lowest(x, y):
-        return min(plate[v * w + u] if on_plate(w, h, u, v) else 0 for u, v in ball(kind, x, y, k))
-    return [lowest(x, y) for x, y in each_cell(w, h)]
-
-
-def over_windows(best, kind, w, h, plate):
-    """The best number of each cell's window, with a ring of zeros about the plate; row by row."""
-    wide = w + 2
-    ringed = bytes(wide) + b"".join(b"\0" + plate[y * w:y * w + w] + b"\0" for y in range(h)) + bytes(wide)
-    steps = [(dx, dy) for dy in (-1, 0, 1) for dx in (-1, 0, 1) if distance(kind, 0, 0, dx, dy) <= 1]
-    out = []
-    for y in range(h):
-        at = (y + 1) * wide + 1
-        out += map(best, *(ringed[at + dy * wide + dx:at + dy * wide + dx + w] for dx, dy in steps))
-    return bytes(out)
-
-
 def listed_by_residues(kind, w, h, plate):
     before, found = bytes(plate), []
-    for k in range(1, LAST_RUNG + 1):
+    for k in range(1, LAST_EROSION + 1):
         if not any(before):
             break
-        rung = over_windows(min, kind, w, h, before)
+        after = eroded(kind, w, h, before)
         if w * h <= SMALL:
-            assert list(rung) == rung_by_balls(kind, w, h, plate, k)
-        high = over_windows(max, kind, w, h, rung)
+            assert after == eroded_by_balls(kind, w, h, plate, k)
+        high = highest_near(kind, w, h, after)
         for i in range(w * h):
             if before[i] > high[i]:
                 found.append((i % w, i // w, k - 1, before[i]))
-        before = rung
+        before = after
     return found
 
 
@@ -151,54 +104,6 @@ def listed(kind, w, h, plate):
 
 # ---- files
 
-def field(tag, *content, size=None):
-    return bytes([tag]) + (len(content) if size is None else size).to_bytes(2, "big") + bytes(content)
-
-
-def end_of(n):
-    return field(3, *n.to_bytes(4, "big"))
-
-
-def file_of(kind, w, h, plunges):
-    return field(1, kind, w, h) + b"".join(field(2, *p) for p in plunges) + end_of(len(plunges))
-
-
-def read(data):
-    """Kind, width, height and plunges of a readable file."""
-    at, plate, plunges = 0, None, []
-    while True:
-        if len(data) - at < 3:
-            raise Refused(6, at)
-        opening = (data[at], data[at + 1] * 256 + data[at + 2])
-        if opening not in (((1, 3),) if plate is None else ((2, 4), (3, 4))):
-            raise Refused(7, at)
-        content = data[at + 3:at + 3 + opening[1]]
-        if len(content) < opening[1]:
-            raise Refused(6, at)
-        after = at + 3 + len(content)
-        if opening[0] == 1:
-            plate = tuple(content)
-            if plate[0] not in (4, 8):
-                raise Refused(1, at)
-            if not (1 <= plate[1] <= 240 and 1 <= plate[2] <= 240):
-                raise Refused(2, at)
-        elif opening[0] == 2:
-            x, y, reach, depth = content
-            if not ball_on_plate(plate[1], plate[2], x, y, reach):
-                raise Refused(8, at)
-            assert reach <= LARGEST_REACH
-            if depth == 0:
-                raise Refused(9, at)
-            plunges.append((x, y, reach, depth))
-        else:
-            if int.from_bytes(content, "big") != len(plunges):
-                raise Refused(10, at)
-            if after < len(data):
-                raise Refused(11, after)
-            return plate + (plunges,)
-        at = after
-
-
 def tidied(kind, w, h, plunges):
     return file_of(kind, w, h, listed(kind, w, h, drawn(kind, w, h, plunges)))
 
@@ -212,22 +117,12 @@ def first_unlike(one, other):
 
 # ---- what a call prints
 
-def shown(content):
-    if len(content) <= 64:
-        return " ".join(f"{b:02x}" for b in content) + "\n"
-    return f"sums {sum(content)} {sum(b * (i % 251 + 1) for i, b in enumerate(content))}\n"
-
-
-def refused(e):
-    return f"refused {e.args[0]} {e.args[1]}\n"
-
-
 def read_text(data):
     try:
         kind, w, h, plunges = read(data)
         return f"read : readable {kind} {w} {h} {len(plunges)}\n"
     except Refused as e:
-        return "read : " + refused(e)
+        return "read : " + refused(*e.args)
 
 
 def draw_text(data, output):
@@ -237,7 +132,7 @@ def draw_text(data, output):
             raise Refused(4, 0)
         return "draw : drawn\n" + shown(drawn(kind, w, h, plunges)) + "rest kept\n"
     except Refused as e:
-        return "draw : " + refused(e) + "rest kept\n"
+        return "draw : " + refused(*e.args) + "rest kept\n"
 
 
 def file_text(data, output):
@@ -249,9 +144,9 @@ def file_text(data, output):
 
 def list_file(r, relief):
     kind, w, h = r["kind"], r["w"], r["h"]
-    if kind not in (4, 8):
+    if not known_kind(kind):
         raise Refused(1, 0)
-    if not (1 <= w <= 240 and 1 <= h <= 240):
+    if not sides_fit(w, h):
         raise Refused(2, 0)
     if min(len(relief), r["a"], r["b"]) < w * h:
         raise Refused(4, 0)
@@ -262,7 +157,7 @@ def list_text(r, relief):
     try:
         return "list : " + file_text(list_file(r, relief), r["output"])
     except Refused as e:
-        return "list : " + refused(e) + "rest kept\nwork kept\n"
+        return "list : " + refused(*e.args) + "rest kept\nwork kept\n"
 
 
 def tidy_text(data, r):
@@ -272,7 +167,7 @@ def tidy_text(data, r):
             raise Refused(4, 0)
         return "tidy : " + file_text(tidied(kind, w, h, plunges), r["output"])
     except Refused as e:
-        return "tidy : " + refused(e) + "rest kept\nwork kept\n"
+        return "tidy : " + refused(*e.args) + "rest kept\nwork kept\n"
 
 
 def check_text(data, r):
@@ -285,7 +180,7 @@ def check_text(data, r):
             raise Refused(12, first_unlike(tidy, data))
         return "check : tidy\nwork kept\n"
     except Refused as e:
-        return "check : " + refused(e) + "work kept\n"
+        return "check : " + refused(*e.args) + "work kept\n"
 
 
 def each_text(data, r):
@@ -379,7 +274,6 @@ def add_file(op, data, output=None, a=None, b=None, c=None, surplus=0):
 # ---- what is tried on small plates
 
 MIDDLE9 = [4, 4, 4, 4, 9, 4, 4, 4, 4]
-EXAMPLE = bytes.fromhex("010003080303 02000401010009 02000401010104 03000400000002")
 FILE_CALLS = (READ, DRAW, TIDY, CHECK)
 
 
@@ -628,19 +522,12 @@ def large_files():
             add(REPEAT, kind, 240, 240, LITERAL, 0, 20, 13 + 7 * 70000, 57600, 57600, 57600, one + end_of(number))
 
 
-# ---- the files
-
-def held(crate, tries):
-    del RECORDS[:]
-    for some in tries:
-        some()
-    return stored(crate, RECORDS, packed, printed)
-
-
 def main():
     small = [blocks, typed_lists, random_lists, small_plates, cuts, faults, pairs, reaches, outputs, work, unlike, narrow]
     large = [middle_plates, large_plates, large_refusals, large_files]
-    sys.exit(max(held("file_runs", small), held("file_plates", large)))
+    differing = stored("test_files", RECORDS, small, packed, printed)
+    differing |= stored("test_files_large", RECORDS, large, packed, printed)
+    sys.exit(int(differing))
 
 
 if __name__ == "__main__":

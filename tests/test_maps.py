@@ -1,19 +1,18 @@
 #!/usr/bin/env python3
-"""Makes the stdin and the expected stdout of the programs map_runs and plate_runs, by document 01 and by other methods
+"""Makes the stdin and the expected stdout of crates/test_maps and crates/test_maps_large, by document 01 and by other methods
 than the library's.
 
+    python3 tests/test_maps.py           writes the four files
+    python3 tests/test_maps.py --check   only compares: ends with 1 if a file differs
+
 Its author had read the library's source, so it is another computation and not another team's implementation.
-map_runs has the blocks, small plates and refusals, which 'rt try' runs too; plate_runs has the long and the large plates:
+test_maps has the blocks, small plates and refusals, which 'rt try' runs too; test_maps_large has the long and the large plates:
 'rt try' ends its interpreter after 10 million steps, which these would pass.
 
-    python3 tests/map_runs.py           writes all four files
-    python3 tests/map_runs.py --check   only compares: ends with 1 if a file differs
-    python3 tests/map_runs.py --small   with either: map_runs alone
-
 How each number is computed (cells off the plate have depth 0 throughout):
-  rungs      plates of at most 100 cells: the lowest depth over every cell of the ball, off-plate cells included.
+  erosions   (rungs) plates of at most 100 cells: the lowest depth over every cell of the ball, off-plate cells included.
              Larger plates: the window of a cell and its neighbours, again and again.
-  residues   the sentence of document 01: rung k-1 minus the highest rung k among the cell and its neighbours.
+  residues   the sentence of document 01: erosion k-1 minus the highest of erosion k among the cell and its neighbours.
   scores     largest and sum of residues 1 to 120.
   clearance  plates of at most 100 cells: the smallest distance to any cell not in the shape, off-plate cells included.
              Larger plates: breadth-first search over neighbours, from all cells not in the shape, with a ring of
@@ -25,81 +24,29 @@ Both ways are computed and compared on the small plates.
 """
 import sys
 
-from records import COLUMNS, CONSTANT, DOME, LITERAL, NOISE, patterned, stored
+from plates import (LAST_EROSION, SMALL, depth, distance, each_cell, eroded, eroded_by_balls, highest_near, known_kind, neighbours, on_plate,
+                    sides_fit)
+from records import COLUMNS, CONSTANT, DOME, LITERAL, NOISE, UNTOUCHED, patterned, refused, shown, stored
 
-CELL, CLEARANCE, AXIS, BACK, RUNG, RESIDUE, LARGEST, SUM, VOLUME = range(1, 10)
-UNTOUCHED = 170
-LAST_RUNG = 120
-
-
-# ---- distance and neighbours
-
-def distance(kind, x, y, x2, y2):
-    across, down = abs(x - x2), abs(y - y2)
-    return across + down if kind == 4 else max(across, down)
+CELL, CLEARANCE, AXIS, BACK, EROSION, RESIDUE, LARGEST, SUM, VOLUME = range(1, 10)
 
 
-def steps(kind):
-    every = [(dx, dy) for dy in (-1, 0, 1) for dx in (-1, 0, 1) if (dx, dy) != (0, 0)]
-    return [s for s in every if distance(kind, 0, 0, *s) == 1]
+# ---- erosions, residues, scores
+
+SERIES = {}
 
 
-def depth(plate, w, h, x, y):
-    return plate[y * w + x] if 0 <= x < w and 0 <= y < h else 0
-
-
-def each_cell(w, h):
-    return ((x, y) for y in range(h) for x in range(w))
-
-
-# ---- rungs, residues, scores
-
-def rung_by_balls(kind, w, h, plate, k):
-    def lowest(x, y):
-        return min(depth(plate, w, h, x + dx, y + dy)
-                   for dy in range(-k, k + 1) for dx in range(-k, k + 1) if distance(kind, 0, 0, dx, dy) <= k)
-    # no cell is further than this from the plate's outside, where the depth is 0
-    return [0] * (w * h) if k > max(w, h) else [lowest(x, y) for x, y in each_cell(w, h)]
-
-
-def over_windows(best, kind, w, h, plate):
-    """The best number of each cell's window, with a ring of zeros about the plate; row by row."""
-    if not any(plate):
-        return plate
-    wide = w + 2
-    ringed = [0] * wide
-    for y in range(h):
-        ringed += [0] + plate[y * w:y * w + w] + [0]
-    ringed += [0] * wide
-    out = []
-    for y in range(h):
-        at = (y + 1) * wide + 1
-        out += map(best, *(ringed[at + dy * wide + dx:at + dy * wide + dx + w] for dx, dy in steps(kind) + [(0, 0)]))
-    return out
-
-
-def shrunk(kind, w, h, plate):
-    return over_windows(min, kind, w, h, plate)
-
-
-def highest_near(kind, w, h, plate):
-    return over_windows(max, kind, w, h, plate)
-
-
-CLIMBS = {}
-
-
-def climb(kind, w, h, plate):
-    """Rungs 0 to 120; from the first that is 0 everywhere they are all 0."""
+def erosions(kind, w, h, plate):
+    """Erosions 0 to 120; from the first that is 0 everywhere they are all 0."""
     key = (kind, w, h, bytes(plate))
-    if key not in CLIMBS:
-        rungs = [plate]
-        for k in range(1, LAST_RUNG + 1):
-            rungs.append(shrunk(kind, w, h, rungs[-1]))
-            if w * h <= 100 and k <= 12:
-                assert rungs[-1] == rung_by_balls(kind, w, h, plate, k)
-        CLIMBS[key] = rungs
-    return CLIMBS[key]
+    if key not in SERIES:
+        series = [bytes(plate)]
+        for k in range(1, LAST_EROSION + 1):
+            series.append(eroded(kind, w, h, series[-1]))
+            if w * h <= SMALL and k <= 12:
+                assert series[-1] == eroded_by_balls(kind, w, h, plate, k)
+        SERIES[key] = series
+    return SERIES[key]
 
 
 RESIDUES = {}
@@ -108,14 +55,14 @@ RESIDUES = {}
 def residue(kind, w, h, plate, k):
     key = (kind, w, h, bytes(plate), k)
     if key not in RESIDUES:
-        rungs = climb(kind, w, h, plate)
-        RESIDUES[key] = [a - b for a, b in zip(rungs[k - 1], highest_near(kind, w, h, rungs[k]))]
+        series = erosions(kind, w, h, plate)
+        RESIDUES[key] = [a - b for a, b in zip(series[k - 1], highest_near(kind, w, h, series[k]))]
         assert min(RESIDUES[key]) >= 0
     return RESIDUES[key]
 
 
 def score(kind, w, h, plate, join):
-    every = (residue(kind, w, h, plate, k) for k in range(1, LAST_RUNG + 1))
+    every = (residue(kind, w, h, plate, k) for k in range(1, LAST_EROSION + 1))
     return [join(column) for column in zip(*(r for r in every if any(r)))] or [0] * (w * h)
 
 
@@ -132,14 +79,14 @@ def clearance_by_search(kind, w, h, plate, level):
     for c in edge:
         found[c] = 0
     away = 0
-    near = steps(kind)
+    near = neighbours(kind)
     while edge:
         away += 1
         more = []
         for x, y in edge:
             for dx, dy in near:
                 c = (x + dx, y + dy)
-                if 0 <= c[0] < w and 0 <= c[1] < h and c not in found:
+                if on_plate(w, h, *c) and c not in found:
                     found[c] = away
                     more.append(c)
         edge = more
@@ -153,7 +100,7 @@ def clearance(kind, w, h, plate, level):
     key = (kind, w, h, bytes(plate), level)
     if key not in CLEARANCES:
         CLEARANCES[key] = clearance_by_search(kind, w, h, plate, level)
-        if w * h <= 100:
+        if w * h <= SMALL:
             assert CLEARANCES[key] == clearance_by_pairs(kind, w, h, plate, level)
     return CLEARANCES[key]
 
@@ -173,14 +120,14 @@ def back_by_buckets(kind, w, h, numbers):
     buckets = [[] for _ in range(256)]
     for c in each_cell(w, h):
         buckets[numbers[c[1] * w + c[0]]].append(c)
-    near = steps(kind)
+    near = neighbours(kind)
     for n in range(255, 1, -1):
         for x, y in buckets[n]:
             if best[y * w + x] != n:
                 continue
             for dx, dy in near:
                 u, v = x + dx, y + dy
-                if 0 <= u < w and 0 <= v < h and best[v * w + u] < n - 1:
+                if on_plate(w, h, u, v) and best[v * w + u] < n - 1:
                     best[v * w + u] = n - 1
                     buckets[n - 1].append((u, v))
     return [int(n > 0) for n in best]
@@ -188,7 +135,7 @@ def back_by_buckets(kind, w, h, numbers):
 
 def back(kind, w, h, numbers):
     drawn = back_by_buckets(kind, w, h, numbers)
-    if w * h <= 100:
+    if w * h <= SMALL:
         assert drawn == back_by_pairs(kind, w, h, numbers)
     return drawn
 
@@ -214,20 +161,20 @@ def packed(r):
 def refusal(r):
     """The first refusal met, in the order 1, 2, 3, 4; 0 if none is."""
     op, w, h = r["op"], r["w"], r["h"]
-    if op != VOLUME and r["kind"] not in (4, 8):
+    if op != VOLUME and not known_kind(r["kind"]):
         return 1
-    if not (1 <= w <= 240 and 1 <= h <= 240):
+    if not sides_fit(w, h):
         return 2
     if op == CELL and (r["z"] == 0 or r["x"] >= w or r["y"] >= h):
         return 3
     if op in (CLEARANCE, AXIS) and r["x"] == 0:
         return 3
-    if op in (RUNG, RESIDUE) and not 1 <= r["x"] <= 120:
+    if op in (EROSION, RESIDUE) and not 1 <= r["x"] <= LAST_EROSION:
         return 3
     buffers = [r["relief"]]
     if op not in (CELL, VOLUME):
         buffers.append(r["output"])
-    if op in (RUNG, RESIDUE, LARGEST, SUM):
+    if op in (EROSION, RESIDUE, LARGEST, SUM):
         buffers.append(r["work"])
     return 4 if min(buffers) < w * h else 0
 
@@ -244,8 +191,8 @@ def answer(r):
         return axis(kind, w, h, plate, x)
     if op == BACK:
         return back(kind, w, h, plate)
-    if op == RUNG:
-        return climb(kind, w, h, plate)[x]
+    if op == EROSION:
+        return erosions(kind, w, h, plate)[x]
     if op == RESIDUE:
         return residue(kind, w, h, plate, x)
     if op == VOLUME:
@@ -258,17 +205,13 @@ def printed(r):
     number = refusal(r)
     got = None if number else answer(r)
     if r["op"] in (CELL, VOLUME):
-        return first + (f"refused {number} 0\n" if number else f"value {got}\n")
+        return first + (refused(number, 0) if number else f"value {got}\n")
     out = [UNTOUCHED] * r["output"]
     if not number:
         assert max(got) <= 255 and len(got) == r["w"] * r["h"]
         out[:len(got)] = got
-    text = first + (f"refused {number} 0\n" if number else "ok\n")
-    if len(out) <= 64:
-        text += " ".join(f"{b:02x}" for b in out) + "\n"
-    else:
-        text += f"sums {sum(out)} {sum(b * (i % 251 + 1) for i, b in enumerate(out))}\n"
-    if number and r["op"] in (RUNG, RESIDUE, LARGEST, SUM):
+    text = first + (refused(number, 0) if number else "ok\n") + shown(out)
+    if number and r["op"] in (EROSION, RESIDUE, LARGEST, SUM):
         text += "work kept\n"
     return text
 
@@ -287,7 +230,7 @@ def add(op, kind, w, h, x=0, y=0, z=0, pattern=CONSTANT, seed=5, literal=None, r
     r = dict(op=op, kind=kind, w=w, h=h, x=x, y=y, z=z, pattern=pattern, seed=seed,
              relief=cells if relief is None else relief,
              output=0 if op in (CELL, VOLUME) else cells if output is None else output,
-             work=0 if op < RUNG or op == VOLUME else cells if work is None else work)
+             work=0 if op < EROSION or op == VOLUME else cells if work is None else work)
     if literal is not None:
         r["literal"] = list(literal)
     RECORDS.append(r)
@@ -304,7 +247,7 @@ def blocks():
             add(AXIS, kind, w, h, 1, literal=depths)
             add(BACK, kind, w, h, literal=axis(kind, w, h, depths, 1))
             for k in (1, 2):
-                add(RUNG, kind, w, h, k, literal=depths)
+                add(EROSION, kind, w, h, k, literal=depths)
             for k in (1, 2, 3):
                 add(RESIDUE, kind, w, h, k, literal=depths)
             add(LARGEST, kind, w, h, literal=depths)
@@ -313,7 +256,7 @@ def blocks():
     # the middle-9 block for the other kind, and with surplus bytes in each buffer
     add(SUM, 4, 3, 3, literal=middle9)
     add(AXIS, 4, 3, 3, 1, literal=middle9, output=12)
-    add(RUNG, 8, 3, 3, 1, literal=middle9 + [255, 255, 255], output=15, work=10)
+    add(EROSION, 8, 3, 3, 1, literal=middle9 + [255, 255, 255], output=15, work=10)
 
 
 def small_plates():
@@ -324,7 +267,7 @@ def small_plates():
             add(CLEARANCE, kind, w, h, 100, **plate)
             add(AXIS, kind, w, h, 100, **plate)
             add(AXIS, kind, w, h, 1, **plate)
-            add(RUNG, kind, w, h, 1, **plate)
+            add(EROSION, kind, w, h, 1, **plate)
             add(RESIDUE, kind, w, h, 1, **plate)
             add(RESIDUE, kind, w, h, 2, **plate)
             add(LARGEST, kind, w, h, **plate)
@@ -341,7 +284,7 @@ def long_plates():
         for kind in (4, 8):
             add(CLEARANCE, kind, w, h, 128, pattern=NOISE, seed=3, surplus=7)
             add(AXIS, kind, w, h, 1, pattern=CONSTANT, seed=1)
-            add(RUNG, kind, w, h, 1, pattern=NOISE, seed=9)
+            add(EROSION, kind, w, h, 1, pattern=NOISE, seed=9)
             add(RESIDUE, kind, w, h, 1, pattern=NOISE, seed=9, surplus=7)
             add(SUM, kind, w, h, pattern=COLUMNS, seed=200)
             add(VOLUME, kind, w, h, pattern=NOISE, seed=9, surplus=7)
@@ -360,9 +303,9 @@ def large_plates():
             add(BACK, kind, w, h, pattern=DOME, **more)
             add(VOLUME, kind, w, h, pattern=CONSTANT, seed=255, **more)
         for k in (1, 2, 60, 119, 120):
-            add(RUNG, kind, 240, 240, k, pattern=CONSTANT, seed=255, surplus=100)
+            add(EROSION, kind, 240, 240, k, pattern=CONSTANT, seed=255, surplus=100)
             add(RESIDUE, kind, 239, 240, k, pattern=DOME, surplus=100)
-        add(RUNG, kind, 240, 240, 2, pattern=NOISE, seed=77)
+        add(EROSION, kind, 240, 240, 2, pattern=NOISE, seed=77)
         add(RESIDUE, kind, 240, 240, 1, pattern=NOISE, seed=77)
         add(RESIDUE, kind, 240, 240, 120, pattern=CONSTANT, seed=255)
         add(LARGEST, kind, 240, 240, pattern=NOISE, seed=77, surplus=1)
@@ -380,8 +323,8 @@ def large_plates():
 
 
 def refusals():
-    maps = (CELL, CLEARANCE, AXIS, BACK, RUNG, RESIDUE, LARGEST, SUM)
-    numbered = (CLEARANCE, AXIS, RUNG, RESIDUE)
+    maps = (CELL, CLEARANCE, AXIS, BACK, EROSION, RESIDUE, LARGEST, SUM)
+    numbered = (CLEARANCE, AXIS, EROSION, RESIDUE)
     room = dict(relief=12, output=12, work=12)
     for op in maps:
         good = dict(x=1, y=1, z=1)
@@ -393,14 +336,14 @@ def refusals():
         add(op, 8, 3, 3, **good, relief=8)
         if op != CELL:
             add(op, 4, 3, 3, **good, output=8)
-        if op >= RUNG:
+        if op >= EROSION:
             add(op, 4, 3, 3, **good, work=8)
             add(op, 4, 3, 3, **good, output=8, work=8)
     for op in numbered:
         add(op, 4, 3, 3, 0)
         add(op, 8, 0, 3, 0, **room)                     # width before number
         add(op, 8, 3, 3, 0, relief=8)                   # number before buffer
-    for op in (RUNG, RESIDUE):
+    for op in (EROSION, RESIDUE):
         for k in (121, 65535):
             add(op, 8, 3, 3, k)
         add(op, 8, 3, 3, 121, work=0)
@@ -416,17 +359,9 @@ def refusals():
         add(VOLUME, kind, w, h, relief=relief)
 
 
-def held(crate, parts):
-    RECORDS.clear()
-    for part in parts:
-        part()
-    return stored(crate, RECORDS, packed, printed)
-
-
 def main():
-    differing = held("map_runs", (blocks, small_plates, refusals))
-    if "--small" not in sys.argv[1:]:
-        differing |= held("plate_runs", (long_plates, large_plates))
+    differing = stored("test_maps", RECORDS, (blocks, small_plates, refusals), packed, printed)
+    differing |= stored("test_maps_large", RECORDS, (long_plates, large_plates), packed, printed)
     sys.exit(int(differing))
 
 

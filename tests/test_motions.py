@@ -1,20 +1,19 @@
 #!/usr/bin/env python3
-"""Makes crates/motion_runs/stdin and the expected crates/motion_runs/stdout, by document 01.
+"""Makes crates/test_motions/stdin and the expected crates/test_motions/stdout, by document 01.
 
-    python3 tests/motion_runs.py           writes both files
-    python3 tests/motion_runs.py --check   only compares: ends with 1 if a file differs
+    python3 tests/test_motions.py           writes both files
+    python3 tests/test_motions.py --check   only compares: ends with 1 if a file differs
 
 Its author had read the library's source, so it is another computation and not another team's implementation.
 Numbers are fractions, rounded to a float exactly where document 01 says 'rounded'; a fraction becomes the nearest float, the even one of two.
-Files are read as tests/file_runs.py reads them.
+Files are read as tests/plunge_files.py reads them.
 """
 import struct
 import sys
 from fractions import Fraction
 
-sys.dont_write_bytecode = True
-from file_runs import EXAMPLE, Refused, end_of, field, file_of, read
-from records import stored
+from plunge_files import EXAMPLE, Refused, end_of, field, file_of, read
+from records import refused, stored
 
 INFINITY, MINUS_INFINITY = 0x7FF << 52, 0xFFF << 52
 NANS = [INFINITY + 1, INFINITY + (1 << 51), MINUS_INFINITY + 1, MINUS_INFINITY + (1 << 51), 2 ** 63 - 1, 2 ** 64 - 1]
@@ -65,7 +64,7 @@ def printed(record):
     try:
         return " ".join(" ".join([name] + [f"{bits(n):016x}" for n in numbers]) for name, *numbers in motions(*record)) + "\n"
     except Refused as e:
-        return f"refused {e.args[0]} {e.args[1]}\n"
+        return refused(*e.args)
 
 
 def packed(record):
@@ -162,9 +161,8 @@ def bad_files():
 
 
 def main():
-    for some in (example, changes, random_numbers, ends, totals, bad_files):
-        some()
-    sys.exit(stored("motion_runs", RECORDS, packed, printed))
+    parts = (example, changes, random_numbers, ends, totals, bad_files)
+    sys.exit(int(stored("test_motions", RECORDS, parts, packed, printed)))
 
 
 if __name__ == "__main__":

@@ -1,23 +1,25 @@
--- `copy` keeps the buffer's length.
+-- `fill_relief` keeps the buffer's length.
 use Prim.Native.Nat.{_-_}
-use borrow.Author.Needs.{needs}
 use mathlib.Core.Path.{_≡_}
 use lib.ListN.{length}
-use Rattle.test_io.proofs.copy.Statement.{statement}
-use Rattle.test_io.proofs.copy.Tie as tie
-use Rattle.test_io.proofs.byte_at.Reads as byte-at-reads
+use borrow.Author.Needs.{needs}
+use Rattle.test_io.proofs.fill_relief.Statement.{statement}
+use Rattle.test_io.proofs.fill_relief.Tie as tie
 
 abbrev Inv-loop : tie.InvT-loop
-Inv-loop buf₀ s i₀ buf i = length buf ≡ length buf₀
+Inv-loop buf₀ pattern seed width height source state₀ i₀ buf state i = length buf ≡ length buf₀
 
 abbrev μ-loop : tie.MeasureT-loop
-μ-loop buf₀ s i₀ buf i = length buf₀ - i
+μ-loop buf₀ pattern seed width height source state₀ i₀ buf state i = length buf₀ - i
 
 loop-holds : tie.Need-loop-holds Inv-loop μ-loop
 loop-holds c = search needs
 
-byte-at-requires : tie.Need-byte-at-requires Inv-loop μ-loop
-byte-at-requires c κs = search needs
+next-state-requires : tie.Need-next-state-requires Inv-loop μ-loop
+next-state-requires c κs = search needs
+
+relief-byte-requires : tie.Need-relief-byte-requires Inv-loop μ-loop
+relief-byte-requires c κs = search needs
 
 slice-write-buf : tie.Need-slice-write-buf Inv-loop μ-loop
 slice-write-buf c = search needs
@@ -37,14 +39,15 @@ same-length c = search needs
 returns : tie.Need-returns Inv-loop μ-loop
 returns c = search needs
 
-pub copy-spec : {M : Type 1} → statement M
-copy-spec =
+pub fill-relief-spec : {M : Type 1} → statement M
+fill-relief-spec =
     tie.close
     (tie.spec
     Inv-loop
     μ-loop
     loop-holds
-    byte-at-requires
+    next-state-requires
+    relief-byte-requires
     slice-write-buf
     add-i
     loop-less
