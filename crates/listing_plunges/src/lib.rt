@@ -17,7 +17,7 @@ ghost use Rattle.buffers.specs.Margin.{Margin};
 ghost use Rattle.buffers.specs.Fill.{PlateOnly};
 ghost use Rattle.fields.specs.Fields.{headBytes, plungeBytes, plungeField, plungeFields};
 ghost use Rattle.fields.specs.Lengths.{IsLength};
-ghost use Rattle.residue_marks.specs.Marks.{markPlaces};
+ghost use Rattle.residue_marks.specs.Marks.{markPlaces, runLength};
 ghost use Rattle.listing_pass.specs.Sent.{Sent, Room};
 ghost use Rattle.listing_plunges.specs.Listable.{Listable};
 ghost use Rattle.listing_plunges.specs.Rows.{counting, plungeAtPlace, marksTo, rowPlunges, placePlunge, reachPlunges, pairPlunges};
@@ -60,7 +60,7 @@ fn send_marks(
     out: &mut [u8],
     at: usize,
 ) -> Progress
-    requires { ⌜ (1 ≤ width) × (width ≤ largestSide) × (number ≤ largestSide) × (start + number ≤ largestSide * width) × (start + number ≤ length (now prev)) × (length (now flags) ≡ markPlaces) × IsLength (at + plungeBytes * number) × Room pass (at + plungeBytes * length (marksTo number width (now prev) (reach .0) start (now flags))) (now out) ⌝ }
+    requires { ⌜ (1 ≤ width) × (width ≤ largestSide) × (number ≤ runLength) × (start + number ≤ largestSide * width) × (start + number ≤ length (now prev)) × (length (now flags) ≡ markPlaces) × IsLength (at + plungeBytes * number) × Room pass (at + plungeBytes * length (marksTo number width (now prev) (reach .0) start (now flags))) (now out) ⌝ }
     ensures { λ r. ⌜ Sent pass (now (file .entry)) at (plungeFields (marksTo number width (now (prev .entry)) (reach .0) start (now (flags .entry)))) (now (out .entry)) (now (out .exit)) r ⌝ }
 {
     let mut place = at;
@@ -106,7 +106,7 @@ fn send_some(
     out: &mut [u8],
     at: usize,
 ) -> Progress
-    requires { ⌜ (1 ≤ width) × (width ≤ largestSide) × (number ≤ largestSide) × (start + number ≤ largestSide * width) × (start + number ≤ length (now prev)) × (length (now flags) ≡ markPlaces) × IsLength (at + plungeBytes * number) × (count ≡ length (marksTo number width (now prev) (reach .0) start (now flags))) × (count ≤ number) × Room pass (at + plungeBytes * length (marksTo number width (now prev) (reach .0) start (now flags))) (now out) ⌝ }
+    requires { ⌜ (1 ≤ width) × (width ≤ largestSide) × (number ≤ runLength) × (start + number ≤ largestSide * width) × (start + number ≤ length (now prev)) × (length (now flags) ≡ markPlaces) × IsLength (at + plungeBytes * number) × (count ≡ length (marksTo number width (now prev) (reach .0) start (now flags))) × (count ≤ number) × Room pass (at + plungeBytes * length (marksTo number width (now prev) (reach .0) start (now flags))) (now out) ⌝ }
     ensures { λ r. ⌜ Sent pass (now (file .entry)) at (plungeFields (marksTo number width (now (prev .entry)) (reach .0) start (now (flags .entry)))) (now (out .entry)) (now (out .exit)) r ⌝ }
 {
     if count == 0 {
@@ -224,7 +224,7 @@ fn send_run(
     flags: &mut [u8; residue_marks::MARK_PLACES],
     at: usize,
 ) -> Progress
-    requires { ⌜ (1 ≤ head .width) × (head .width ≤ largestSide) × (head .height ≤ largestSide) × (head .width + 1 ≤ start) × (number ≤ largestSide) × (start + number + head .width + 1 ≤ area head) × (area head ≤ length (now prev)) × (area head ≤ length (now cur)) × (length (now flags) ≡ markPlaces) × IsLength (at + plungeBytes * number) × Room pass (at + plungeBytes * length (gather number start (placePlunge head (now prev) (now cur) (reach .0)))) (now out) ⌝ }
+    requires { ⌜ (1 ≤ head .width) × (head .width ≤ largestSide) × (head .height ≤ largestSide) × (head .width + 1 ≤ start) × (number ≤ runLength) × (start + number + head .width + 1 ≤ area head) × (area head ≤ length (now prev)) × (area head ≤ length (now cur)) × (length (now flags) ≡ markPlaces) × IsLength (at + plungeBytes * number) × Room pass (at + plungeBytes * length (gather number start (placePlunge head (now prev) (now cur) (reach .0)))) (now out) ⌝ }
     ensures { λ r. ⌜ (length (now (flags .exit)) ≡ markPlaces) × Sent pass (now (file .entry)) at (plungeFields (gather number start (placePlunge head (now (prev .entry)) (now (cur .entry)) (reach .0)))) (now (out .entry)) (now (out .exit)) r ⌝ }
 {
     let kind = head.kind;
@@ -247,7 +247,7 @@ fn send_run(
 
 // The length of the next run where some places are left.
 fn run_length(left: usize) -> usize
-    ensures { λ r. ⌜ r ≡ min left largestSide ⌝ }
+    ensures { λ r. ⌜ r ≡ min left runLength ⌝ }
 {
     if left < residue_marks::RUN {
         left

@@ -2,7 +2,7 @@
 use mathlib.Core.Path.{sym}
 use native.Mathlib.Omega.{arith}
 use lib.ListN.{length}
-use Rattle.residue_marks.proofs.Marking.{row-room}
+use Rattle.buffers.proofs.Rooms.{row-room}
 use Rattle.listing_plunges.proofs.Plunges.{row-marked, row-count, sent-as, room-as}
 use Rattle.listing_plunges.proofs.Runs.{row-below}
 use borrow.Author.Needs.{needs}
@@ -20,7 +20,11 @@ mul-start c =
     omega (arith, row-below (at-start .args .row) (at-start .args .head .width) (at-start .pre .2))
 
 mark-row-requires : tie.Need-mark-row-requires
-mark-row-requires c κs = search needs
+mark-row-requires c κs =
+    let at-start = c .before .before .before .before .before .before in (
+      at-start .pre .3,
+      record { narrow = at-start .pre .1; before = at-start .pre .4; after = at-start .pre .5; size = at-start .pre .6 },
+    )
 
 send-some-requires : tie.Need-send-some-requires
 send-some-requires c κs =
@@ -30,7 +34,7 @@ send-some-requires c κs =
       at-start .pre .1,
       at-start .pre .1,
       row-below (given .row) (given .head .width) (at-start .pre .2),
-      row-room (given .head) (given .row) (length (given .prev .now)) (at-start .pre .3) (at-start .pre .4),
+      row-room (given .head .width) (given .row) (given .head .height) (length (given .prev .now)) (at-start .pre .3) (at-start .pre .4),
       omega (arith, c .before .before .mark-row .ensures .filled .same),
       at-start .pre .7,
       row-count (given .head) (given .prev .now) (given .cur .now) (given .reach .0) (given .row) _ _ _

@@ -14,7 +14,19 @@ cast-width : tie.Need-cast-width
 cast-width c = search needs
 
 mark-run-requires : tie.Need-mark-run-requires
-mark-run-requires c κs = search needs
+mark-run-requires c κs =
+    let at-start = c .before .before .before .before .before .before in
+    record {
+      interior =
+          record {
+            under = omega (arith, at-start .pre .3);
+            ordered = omega arith;
+            over = omega (arith, at-start .pre .5, at-start .pre .7);
+          };
+      short = at-start .pre .4;
+      before = omega (arith, at-start .pre .5, at-start .pre .6);
+      size = at-start .pre .8;
+    }
 
 send-some-requires : tie.Need-send-some-requires
 send-some-requires c κs =
