@@ -41,7 +41,7 @@ add-load-run c =
 load-run-requires : tie.Need-load-run-requires
 load-run-requires c κs =
     let s = c .before .before .before .before .before in (
-      stretch s (omega (arith, c .before .if1 .taken)),
+      omega (arith, stretch s (omega (arith, c .before .if1 .taken))),
       omega (arith, s .pre .sides .narrow),
       s .pre .margins .size,
     )
