@@ -19,7 +19,7 @@ use Rattle.refusal.specs.declared.Refusal.{Refusal}
 use Rattle.refusal.specs.declared.Verdict.{Verdict}
 use Rattle.refusal.specs.declared.Verdict.the-variants.{Accepted, Refused}
 use Rattle.refusal.specs.Refusals.{Trial, trial, firstMet, short, mapTrials, headOf, largestSide, largestErosion, free, written, Answered, Worked}
-use Rattle.refusal.proofs.Refusals.{shortest-two, same-verdict, map-sound}
+use Rattle.refusal.proofs.Refusals.{shortest-two, same-verdict, map-sound, answered-refused}
 use Rattle.reading.proofs.Steps.{andThen, first-append}
 use Rattle.buffers.specs.Fill.{Mapped, PlateOnly}
 use Rattle.buffers.proofs.Fill.{mapped-bytes, surplus-drop}
@@ -141,9 +141,6 @@ drawn-bytes f p n old new e l h m =
     ∙ ap (λ (r : List ℕ). r ++ drop (length r) old) (ap₂ (λ (h : Head) (k : ℕ). tabulated h (drawn (h .kind) (plungesUpTo k f))) e l)
 
 -- ---- the calls, each by the tests that led to its end
-
-pub answered-refused : (v : Verdict) (q : Refusal) (new out : List ℕ) → v ≡ Refused q → Answered v new out out (Refused q)
-answered-refused v q new out e = record { answer = sym e; bytes = sym (ap (λ (u : Verdict). written u new out) e) }
 
 -- on a fault everything stays
 pub draw-fault : (f : List ℕ) (q : Refusal) (out : List ℕ) → firstMet (fileTrials f) ≡ Refused q → Answered (drawVerdict f out) (relief f) out out (Refused q)

@@ -26,6 +26,7 @@ use Rattle.listing_pass.proofs.Passes.{sent-more, sent-stops, gather-parts, gat
 use Rattle.listing_plunges.specs.Rows.{markedPlace, markedAt, marksTo, rowPlunges, placePlunge, reachPlunges}
 use Rattle.listing_plunges.proofs.Plunges.{mark-few, marks-sent, marks-count, place-cell, row-none}
 use Rattle.refusal.specs.Refusals.{largestSide}
+use Rattle.buffers.proofs.Rooms.{RowsRoom, rows-room}
 
 -- ---- lists of rows, as lists of places
 
@@ -133,21 +134,9 @@ module _ (p : Head) (prev cur : List ℕ) (r k : ℕ) (m : Margin p k prev) (one
   pub place-none : (n : ℕ) → 0 < p .width → n < area p → (n ≤ k * p .width) ⊎ ((p .height - k) * p .width ≤ n + 1) → placePlunge p prev cur r n ≡ []
   place-none n pos l o = ap (markedPlace (p .width) prev r n) (near-zero p prev cur n (zero-place n pos l o))
 
--- the places that a level's runs go over, in order and within the plate
-pub record RunsRoom (k w h : ℕ) : Type 0 where
-  pub under : w ≤ k * w
-  pub ordered : k * w + 3 ≤ (h - k) * w
-  pub over : (h - k) * w + w ≤ h * w
-
-pub runs-room : (k w h : ℕ) → 1 ≤ k → 3 ≤ w → 2 * k + 1 ≤ h → RunsRoom k w h
-runs-room k w h a b c =
-    let one : suc k ≤ h - k = omega arith in
-    let two : suc (h - k) ≤ h = omega arith in
-    record {
-      under = omega (arith, mul-le-mul-right w a, one-mul w);
-      ordered = omega (arith, mul-le-mul-right w one, suc-mul k w);
-      over = omega (arith, mul-le-mul-right w two, suc-mul (h - k) w);
-    }
+-- the rows that the runs of reach k go over, in order and within the plate
+pub runs-room : (k w h : ℕ) → 1 ≤ k → 3 ≤ w → 2 * k + 1 ≤ h → RowsRoom w k (h - k) (h * w)
+runs-room k w h a b c = rows-room w k (h - k) h (h * w) a (omega arith) (omega arith) (omega arith)
 
 -- ---- runs of turns
 

@@ -49,12 +49,13 @@ filter-map-requires : tie.Need-filter-map-requires Inv-loop μ-loop
 filter-map-requires c κs =
     let at-place-range = c .before .before .before .before .before in
     let s = at-place-range .before .before .before .before .before .before in
-    let v = c .before .before .loop .inv in (
-      s .pre .0,
-      omega (arith, s .pre .2, at-place-range .place-range .ensures .same, v .1 .same),
-      omega (arith, v .0, s .pre .3 .small),
-      λ h. reach-margin (s .args .head) (s .args .count) _ (s .pre .0) (s .pre .1) _ _ (omega (arith, c .before .loop-test .taken)) _ _ (v .1),
-    )
+    let v = c .before .before .loop .inv in
+    record {
+      sides = s .pre .0;
+      long = omega (arith, s .pre .2, at-place-range .place-range .ensures .same, v .1 .same);
+      edge = omega (arith, v .0, s .pre .3 .small);
+      zeros = λ h. reach-margin (s .args .head) (s .args .count) _ (s .pre .0) (s .pre .1) _ _ (omega (arith, c .before .loop-test .taken)) _ _ (v .1);
+    }
 
 mul-place-range-3 : tie.Need-mul-place-range-3 Inv-loop μ-loop
 mul-place-range-3 c =
