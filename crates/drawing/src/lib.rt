@@ -27,7 +27,7 @@ fn reach_at(head: Head, file: &[u8], count: usize, i: usize) -> usize
     requires { ⌜ Sides head × Drawable head count (now file) × (i < count) ⌝ }
     ensures { λ r. ⌜ r ≡ nthPlunge (now (file .entry)) i .reach .0 ⌝ }
 {
-    let maybe = reading::nth_plunge(head, file, i);
+    let maybe = reading::plunge_at(file, fields::place(head, i));
     match maybe {
         MaybePlunge::OfPlunge(q) => q.reach.0 as usize,
         MaybePlunge::NoPlunge => 0,
@@ -72,7 +72,7 @@ fn place_one(head: Head, file: &[u8], count: usize, i: usize, reach: usize, map:
     ensures { λ _. ⌜ Raised head (now (file .entry)) reach i (i + 1) (now (map .entry)) (now (map .exit)) ⌝ }
 {
     let width = head.width as usize;
-    let maybe = reading::nth_plunge(head, file, i);
+    let maybe = reading::plunge_at(file, fields::place(head, i));
     match maybe {
         MaybePlunge::OfPlunge(q) => {
             if (q.reach.0 as usize) == reach {

@@ -8,18 +8,23 @@ use Rattle.drawing.proofs.place_one.Statement.{statement}
 use Rattle.drawing.proofs.place_one.Tie as tie
 
 -- the plunge that was read is the file's
-read : (c : tie.After-maybe) → let given = c .before .before .before .before .before .before .args in
+read : (c : tie.After-maybe) → let given = c .before .before .before .before .before .before .before .args in
     c .maybe .given .0 .0 ≡ nthPlunge (given .file .now) (given .i)
 read c =
-    let s = c .before .before .before .before .before .before in
+    let at-plunge-at = c .before .before in
+    let at-place = at-plunge-at .before in
+    let s = at-place .before .before .before .before in
     told (s .args .head) (s .args .count) _ (s .pre .0) (s .pre .1) (s .args .i) (s .pre .2) _ _
-    (c .before .before .nth-plunge .ensures) (c .maybe .given .1)
+    (rw (at-place .place .ensures) at (at-plunge-at .plunge-at .ensures)) (c .maybe .given .1)
 
 cast-width : tie.Need-cast-width
 cast-width c = search needs
 
-nth-plunge-requires : tie.Need-nth-plunge-requires
-nth-plunge-requires c κs = search needs
+place-requires : tie.Need-place-requires
+place-requires c κs = search needs
+
+plunge-at-requires : tie.Need-plunge-at-requires
+plunge-at-requires c κs = search needs
 
 enum-known-maybe : tie.Need-enum-known-maybe
 enum-known-maybe c = search needs
@@ -33,7 +38,7 @@ cast-n c = search needs
 mul-n : tie.Need-mul-n
 mul-n c =
     let at-maybe = c .before .before .before .before in
-    let s = at-maybe .before .before .before .before .before .before in
+    let s = at-maybe .before .before .before .before .before .before .before in
     omega (
       arith,
       s .pre .3,
@@ -46,7 +51,7 @@ cast-n-2 c = search needs
 add-n : tie.Need-add-n
 add-n c =
     let at-maybe = c .before .before .before .before .before in
-    let s = at-maybe .before .before .before .before .before .before in
+    let s = at-maybe .before .before .before .before .before .before .before in
     omega (
       arith,
       s .pre .3,
@@ -56,7 +61,7 @@ add-n c =
 slice-read-old : tie.Need-slice-read-old
 slice-read-old c =
     let at-maybe = c .before .before .before .before .before .before in
-    let s = at-maybe .before .before .before .before .before .before in
+    let s = at-maybe .before .before .before .before .before .before .before in
     omega (
       arith,
       s .pre .3,
@@ -69,7 +74,7 @@ higher-requires c κs = search needs
 slice-write-map : tie.Need-slice-write-map
 slice-write-map c =
     let at-maybe = c .before .before .before .before .before .before .before in
-    let s = at-maybe .before .before .before .before .before .before in
+    let s = at-maybe .before .before .before .before .before .before .before in
     omega (
       arith,
       s .pre .3,
@@ -85,7 +90,7 @@ same-length c = search needs
 returns : tie.Need-returns
 returns c =
     let at-if1 = c .before .before .before .before in
-    let s = at-if1 .before .before .before .before .before .before .before .before .before in
+    let s = at-if1 .before .before .before .before .before .before .before .before .before .before in
     raised-one-told (s .args .head) _ (s .args .reach) (s .args .i) _ _ _ (read (at-if1 .before .before .before))
     (at-if1 .if1 .taken)
     (omega (
@@ -97,23 +102,26 @@ returns c =
 
 returns-2 : tie.Need-returns-2
 returns-2 c =
-    let s = c .before .before .before .before .before .before .before .before .before in
+    let s = c .before .before .before .before .before .before .before .before .before .before in
     raised-skip-told (s .args .head) _ (s .args .reach) (s .args .i) _ _ (read (c .before .before .before))
     (c .if1 .left)
 
 returns-3 : tie.Need-returns-3
 returns-3 c =
-    let s = c .before .before .before .before .before .before in
+    let at-plunge-at = c .before .before in
+    let at-place = at-plunge-at .before in
+    let s = at-place .before .before .before .before in
     absurd
     (told-none (s .args .head) (s .args .count) _ (s .pre .0) (s .pre .1) (s .args .i) (s .pre .2) _
-    (c .before .before .nth-plunge .ensures) (c .enum-told .given .1))
+    (rw (at-place .place .ensures) at (at-plunge-at .plunge-at .ensures)) (c .enum-told .given .1))
 
 pub place-one-spec : {M : Type 1} → statement M
 place-one-spec =
     tie.close
     (tie.spec
     cast-width
-    nth-plunge-requires
+    place-requires
+    plunge-at-requires
     enum-known-maybe
     cast-if1
     cast-n

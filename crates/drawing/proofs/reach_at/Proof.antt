@@ -5,8 +5,11 @@ use borrow.Author.Needs.{needs}
 use Rattle.drawing.proofs.reach_at.Statement.{statement}
 use Rattle.drawing.proofs.reach_at.Tie as tie
 
-nth-plunge-requires : tie.Need-nth-plunge-requires
-nth-plunge-requires c κs = search needs
+place-requires : tie.Need-place-requires
+place-requires c κs = search needs
+
+plunge-at-requires : tie.Need-plunge-at-requires
+plunge-at-requires c κs = search needs
 
 enum-known-maybe : tie.Need-enum-known-maybe
 enum-known-maybe c = search needs
@@ -19,24 +22,28 @@ enum-told c = search needs
 
 returns : tie.Need-returns
 returns c =
-    let at-nth-plunge = c .before .before .before .before in
-    let s = at-nth-plunge .before .before in
+    let at-plunge-at = c .before .before .before .before in
+    let at-place = at-plunge-at .before in
+    let s = at-place .before .before in
     ap (λ q. q .reach .0)
     (told (s .args .head) (s .args .count) _ (s .pre .0) (s .pre .1) (s .args .i) (s .pre .2) _ _
-    (at-nth-plunge .nth-plunge .ensures) (c .before .before .maybe .given .1))
+    (rw (at-place .place .ensures) at (at-plunge-at .plunge-at .ensures)) (c .before .before .maybe .given .1))
 
 returns-2 : tie.Need-returns-2
 returns-2 c =
-    let s = c .before .before .before .before in
+    let at-plunge-at = c .before .before in
+    let at-place = at-plunge-at .before in
+    let s = at-place .before .before in
     absurd
     (told-none (s .args .head) (s .args .count) _ (s .pre .0) (s .pre .1) (s .args .i) (s .pre .2) _
-    (c .before .before .nth-plunge .ensures) (c .enum-told .given .1))
+    (rw (at-place .place .ensures) at (at-plunge-at .plunge-at .ensures)) (c .enum-told .given .1))
 
 pub reach-at-spec : {M : Type 1} → statement M
 reach-at-spec =
     tie.close
     (tie.spec
-    nth-plunge-requires
+    place-requires
+    plunge-at-requires
     enum-known-maybe
     cast-result
     enum-told

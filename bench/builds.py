@@ -1,17 +1,20 @@
 #!/usr/bin/python3
-"""bench/compare.py BEFORE.so AFTER.so: times two builds of the library, call by call, in one run.
+"""bench/builds.py BEFORE.so AFTER.so: times two builds of the library, call by call, in one run.
 
 For each plate, kind and call both builds must answer the same bytes. Samples are taken in random order, equally many of each; what is
 printed is the ratio of the least times, after over before, for each call its largest and its median. Ends with 1 if a call is slower than
 the limit (--limit, 1.05) on the median of its plates, or answers differ.
 """
 import argparse
+import os
 import random
 import statistics
 import sys
 import time
 
 import numpy as np
+
+sys.path.insert(0, os.path.join(os.path.dirname(os.path.abspath(__file__)), "..", "conformance"))
 
 import bench
 import library
@@ -73,7 +76,7 @@ def ratios(before, after, samples, rng):
         for call, _ in pair.values():
             call()
         if pair["before"][1] is not None and not np.array_equal(pair["before"][1], pair["after"][1]):
-            sys.exit(f"compare: {name} answers other bytes")
+            sys.exit(f"builds: {name} answers other bytes")
         order = [which for which in pair for _ in range(samples)]
         rng.shuffle(order)
         times = {"before": [], "after": []}
