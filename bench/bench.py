@@ -321,11 +321,24 @@ def picture(results, path):
     figure.savefig(path, dpi=110)
 
 
-def wrapped(line):
-    """Prose in lines of 120 columns; tables as they are."""
-    if line.startswith("|") or len(line) <= 120:
-        return [line]
-    return textwrap.wrap(line, 120, subsequent_indent="  " if line.startswith("- ") else "")
+def wrapped(lines):
+    """Prose in lines of 120 columns, a paragraph or a point of a list at a time; all else as it is."""
+    out, part = [], []
+
+    def end():
+        if part:
+            out.extend(textwrap.wrap(" ".join(part), 120, subsequent_indent="  " if part[0].startswith("- ") else ""))
+            part.clear()
+
+    for line in lines:
+        if not line or line.startswith(("#", "|", "!", "- ")):
+            end()
+        if not line or line.startswith(("#", "|", "!")):
+            out.append(line)
+        else:
+            part.append(line)
+    end()
+    return out
 
 
 def write(results, sides, thin, short, asked, head):
@@ -353,7 +366,7 @@ def write(results, sides, thin, short, asked, head):
         lines += table(results, call)
     lines += side_table(sides)
     with open(os.path.join(asked.out, "RESULTS.md"), "w") as out:
-        out.write("\n".join(part for line in lines for part in wrapped(line)).rstrip() + "\n")
+        out.write("\n".join(wrapped(lines)).rstrip() + "\n")
     picture(results, os.path.join(asked.out, "results.png"))
 
 
