@@ -6,32 +6,17 @@ use Prim.Native.Nat.{ℕ, _+_, _-_, _≤_, _<_}
 use native.Mathlib.Omega.{arith}
 use borrow.Author.Tests.{lt-ltb, le-ltb, le-leb, eq-eqb, ne-eqb}
 use lib.Dec.{eqb}
-use lib.ListN.{getD}
 use Rattle.geometry.specs.declared.Plunge.{Plunge}
-use Rattle.geometry.specs.Forms.{largestReach}
 use Rattle.refusal.specs.declared.Refusal.{Refusal}
 use Rattle.refusal.specs.declared.Verdict.{Verdict}
 use Rattle.refusal.specs.declared.Verdict.the-variants.{Accepted, Refused}
 use Rattle.refusal.specs.Refusals.{firstMet}
-use Rattle.reading.specs.declared.MaybePlunge.the-variants.{OfPlunge, NoPlunge}
-use Rattle.reading.specs.Reading.{IsReadable, fileTrials, plungeAt, total, nthPlunge}
-use Rattle.reading.specs.Steps.{plungeIf}
+use Rattle.reading.specs.Reading.{IsReadable, fileTrials, total, nthPlunge}
 use Rattle.reading.proofs.Answers.{after-file, file-fault}
 use Rattle.motion.specs.declared.Scale.{Scale}
 use Rattle.motion.specs.declared.Motions.{Motions}
 use Rattle.motion.specs.declared.MotionAnswer.the-variants.{Moves, NoMoves}
 use Rattle.motion.specs.Motions.{scaleInRange, motionsOf, changes, motionVerdict, motionAnswer, motionsIn}
-use Rattle.fields.specs.Fields.{place}
-
--- a field whose reach is one gives its plunge
-pub is-plunge : (f : List ℕ) (at : ℕ) → getD f (at + 5) 0 ≤ largestReach → plungeIf f at ≡ OfPlunge (plungeAt f at)
-is-plunge f at h = rw (le-leb _ _ h)
-
-pub found-plunge : (f : List ℕ) (at : ℕ) (q : Plunge) → getD f (at + 5) 0 ≤ largestReach → OfPlunge q ≡ plungeIf f at → q ≡ plungeAt f at
-found-plunge f at q h e = let z : OfPlunge q ≡ OfPlunge (plungeAt f at) = e ∙ is-plunge f at h in cc
-
-pub no-plunge : {A : Type 0} (f : List ℕ) (at : ℕ) → getD f (at + 5) 0 ≤ largestReach → NoPlunge ≡ plungeIf f at → A
-no-plunge f at h e = let y : NoPlunge ≡ OfPlunge (plungeAt f at) = e ∙ is-plunge f at h in let z : _≡_ {A = ℕ} 0 1 = cc in absurd (omega arith)
 
 -- whether the electrode changes
 pub changes-first : (f : List ℕ) (i : ℕ) → i ≡ 0 → true ≡ changes f i

@@ -1,19 +1,13 @@
 // Press motions: what the press does for one plunge of a file, in millimetres, to the last bit.
-use geometry::Head;
 use geometry::Plunge;
-use geometry::Reach;
 use reading::Job;
-use reading::MaybePlunge;
 use reading::ReadAnswer;
 use refusal::Refusal;
 ghost use mathlib.Core.Path.{_≡_};
 ghost use mathlib.Core.Bool.{true, false, cond, not};
-ghost use Prim.Native.Nat.{_+_, _-_, _*_, _≤_, _<_};
+ghost use Prim.Native.Nat.{_+_, _-_, _*_, _<_};
 ghost use lib.Dec.{eqb};
-ghost use lib.ListN.{length, getD};
-ghost use Rattle.geometry.specs.Forms.{largestReach};
-ghost use Rattle.fields.specs.Fields.{plungeBytes, place};
-ghost use Rattle.reading.specs.Reading.{total, IsReadable, nthPlunge};
+ghost use Rattle.reading.specs.Reading.{total};
 ghost use Rattle.reading.specs.Steps.{JobOf};
 ghost use Rattle.motion.specs.Motions.{within, scaleInRange, changeWidth, travelTo, motionsOf, changes, motionsIn};
 
@@ -112,33 +106,16 @@ pub fn motions_of(scale: Scale, changed: bool, q: Plunge) -> Motions
 
 // ---- the call
 
-// Plunge number i, read where its field stands.
-fn plunge_number(head: Head, file: &[u8], i: usize) -> Plunge
-    requires { ⌜ (place head i + plungeBytes ≤ length (now file)) × (getD (now file) (place head i + 5) 0 ≤ largestReach) ⌝ }
-    ensures { λ r. ⌜ r ≡ nthPlunge (now (file .entry)) i ⌝ }
-{
-    let found = reading::nth_plunge(head, file, i);
-    match found {
-        MaybePlunge::OfPlunge(q) => q,
-        MaybePlunge::NoPlunge => Plunge {
-            column: 0,
-            row: 0,
-            reach: Reach(0),
-            depth: 0,
-        },
-    }
-}
-
 // Whether the electrode changes before plunge number i.
-fn is_changed(head: Head, file: &[u8], i: usize) -> bool
-    requires { ⌜ IsReadable (now file) × (i < total (now file)) ⌝ }
+fn is_changed(file: &[u8], job: Job, i: usize) -> bool
+    requires { ⌜ JobOf (now file) job × (i < total (now file)) ⌝ }
     ensures { λ r. ⌜ r ≡ changes (now (file .entry)) i ⌝ }
 {
     if i == 0 {
         return true;
     }
-    let q = plunge_number(head, file, i);
-    let before = plunge_number(head, file, i - 1);
+    let q = reading::nth_plunge(file, job, i);
+    let before = reading::nth_plunge(file, job, i - 1);
     q.reach.0 != before.reach.0
 }
 
@@ -159,9 +136,8 @@ pub fn motions_at(file: &[u8], job: Job, i: usize, scale: Scale) -> MotionAnswer
             place: 0,
         });
     }
-    let head = job.head;
-    let changed = is_changed(head, file, i);
-    let q = plunge_number(head, file, i);
+    let changed = is_changed(file, job, i);
+    let q = reading::nth_plunge(file, job, i);
     MotionAnswer::Moves(motions_of(scale, changed, q))
 }
 

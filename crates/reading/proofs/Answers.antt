@@ -5,7 +5,9 @@ use mathlib.Core.List.{List, _++_}
 use Prim.Native.Nat.{ℕ, _+_, _≤_, _<_}
 use native.Mathlib.Omega.{arith}
 use native.Mathlib.Decide.{decLe}
+use borrow.Author.Tests.{le-leb}
 use lib.ListN.{length, getD}
+use Rattle.geometry.specs.declared.Plunge.{Plunge}
 use Rattle.geometry.specs.Forms.{largestReach}
 use Rattle.refusal.specs.declared.Refusal.{Refusal}
 use Rattle.refusal.specs.declared.Verdict.{Verdict}
@@ -13,11 +15,12 @@ use Rattle.refusal.specs.declared.Verdict.the-variants.{Accepted, Refused}
 use Rattle.refusal.specs.Refusals.{Trial, firstMet}
 use Rattle.reading.specs.declared.Job.{Job}
 use Rattle.reading.specs.declared.ReadAnswer.the-variants.{Readable, Unreadable}
+use Rattle.reading.specs.declared.MaybePlunge.the-variants.{OfPlunge, NoPlunge}
 use Rattle.reading.specs.Reading.{IsReadable, fileTrials, headIn, plungeAt, total, readAnswer, read}
 use Rattle.reading.proofs.Steps.{andThen, first-append, both-accepted, wide-ball}
 use Rattle.reading.proofs.Readable.{readable-sound}
 use Rattle.fields.specs.Fields.{plungeBytes, place}
-use Rattle.reading.specs.Steps.{JobOf}
+use Rattle.reading.specs.Steps.{JobOf, plungeIf}
 
 -- ---- the file's faults first
 
@@ -58,3 +61,13 @@ plunge-asks f i ok h = (omega (arith, readable-sound f ok .room), go (decLe (get
         let e : _≡_ {A = Bool} true false = sym (s .fits i h) ∙ wide-ball (headIn f) (plungeAt f (place (headIn f) i)) (s .sides .narrow) (omega arith) in
         let z : _≡_ {A = ℕ} 0 1 = cc in
         absurd (omega arith)
+
+-- a field whose reach is one gives its plunge
+pub is-plunge : (f : List ℕ) (at : ℕ) → getD f (at + 5) 0 ≤ largestReach → plungeIf f at ≡ OfPlunge (plungeAt f at)
+is-plunge f at h = rw (le-leb _ _ h)
+
+pub found-plunge : (f : List ℕ) (at : ℕ) (q : Plunge) → getD f (at + 5) 0 ≤ largestReach → OfPlunge q ≡ plungeIf f at → q ≡ plungeAt f at
+found-plunge f at q h e = let z : OfPlunge q ≡ OfPlunge (plungeAt f at) = e ∙ is-plunge f at h in cc
+
+pub no-plunge : {A : Type 0} (f : List ℕ) (at : ℕ) → getD f (at + 5) 0 ≤ largestReach → NoPlunge ≡ plungeIf f at → A
+no-plunge f at h e = let y : NoPlunge ≡ OfPlunge (plungeAt f at) = e ∙ is-plunge f at h in let z : _≡_ {A = ℕ} 0 1 = cc in absurd (omega arith)

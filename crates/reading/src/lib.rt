@@ -6,12 +6,12 @@ use geometry::Reach;
 use refusal::Refusal;
 use refusal::Verdict;
 ghost use mathlib.Core.Path.{_≡_};
-ghost use Prim.Native.Nat.{suc, _+_, _≤_};
+ghost use Prim.Native.Nat.{suc, _+_, _≤_, _<_};
 ghost use lib.ListN.{length};
 ghost use Rattle.refusal.specs.Refusals.{largestSide, firstMet};
 ghost use Rattle.fields.specs.Fields.{opening, headBytes, plungeBytes, endBytes, place};
-ghost use Rattle.reading.specs.Reading.{opens, headIn, numberAt, openTrials, plateTrials, headTrials, plungeTrials, endTrials, fieldsFrom, readAnswer, read};
-ghost use Rattle.reading.specs.Steps.{opensEither, stepOf, contentStep, stepAt, plungeIf};
+ghost use Rattle.reading.specs.Reading.{opens, headIn, numberAt, openTrials, plateTrials, headTrials, plungeTrials, endTrials, fieldsFrom, readAnswer, read, nthPlunge, total};
+ghost use Rattle.reading.specs.Steps.{opensEither, stepOf, contentStep, stepAt, plungeIf, JobOf};
 
 // What a readable file says: its plate, and how many plunges follow.
 pub struct Job {
@@ -138,12 +138,22 @@ pub fn plunge_at(file: &[u8], at: usize) -> MaybePlunge
     }
 }
 
-// The plunge of the field with i plunges before it.
-pub fn nth_plunge(head: Head, file: &[u8], i: usize) -> MaybePlunge
-    requires { ⌜ place head i + plungeBytes ≤ length (now file) ⌝ }
-    ensures { λ r. ⌜ r ≡ plungeIf (now (file .entry)) (place head i) ⌝ }
+// Plunge number i of a readable file.
+pub fn nth_plunge(file: &[u8], job: Job, i: usize) -> Plunge
+    requires { ⌜ JobOf (now file) job × (i < total (now file)) ⌝ }
+    ensures { λ r. ⌜ r ≡ nthPlunge (now (file .entry)) i ⌝ }
 {
-    plunge_at(file, fields::place(head, i))
+    let at = fields::place(job.head, i);
+    let found = plunge_at(file, at);
+    match found {
+        MaybePlunge::OfPlunge(q) => q,
+        MaybePlunge::NoPlunge => Plunge {
+            column: 0,
+            row: 0,
+            reach: Reach(0),
+            depth: 0,
+        },
+    }
 }
 
 // Refusals 8 and 9 in their order; a reach above the largest leaves every plate.

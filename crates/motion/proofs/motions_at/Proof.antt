@@ -1,7 +1,6 @@
 -- `motions_at` tries the scale, then the number, then gives the motions.
 use mathlib.Core.Path.{sym, ap₂, _∙_}
 use native.Mathlib.Omega.{arith}
-use Rattle.reading.proofs.Answers.{plunge-asks}
 use Rattle.motion.specs.Motions.{motionsOf}
 use Rattle.motion.proofs.Calls.{not-true, not-false, scale-refused, number-refused, moves}
 use borrow.Author.Needs.{needs}
@@ -10,7 +9,7 @@ use Rattle.motion.proofs.motions_at.Tie as tie
 use Rattle.motion.proofs.in_range.Reads as in-range-reads
 use Rattle.motion.proofs.is_changed.Reads as is-changed-reads
 use Rattle.motion.proofs.motions_of.Reads as motions-of-reads
-use Rattle.motion.proofs.plunge_number.Reads as plunge-number-reads
+use Rattle.reading.proofs.nth_plunge.Reads as nth-plunge-reads
 
 in-range-requires : tie.Need-in-range-requires
 in-range-requires c κs = search needs
@@ -34,18 +33,15 @@ returns-2 c =
 is-changed-requires : tie.Need-is-changed-requires
 is-changed-requires c κs = search needs
 
-plunge-number-requires : tie.Need-plunge-number-requires
-plunge-number-requires c κs =
-    let at-if2 = c .before .before in
-    let at-start = at-if2 .before .before .before .before .before in
-    plunge-asks _ _ (at-start .pre .readable) (omega (arith, at-start .pre .plunges, at-if2 .if2 .left))
+nth-plunge-requires : tie.Need-nth-plunge-requires
+nth-plunge-requires c κs = search needs
 
 motions-of-requires : tie.Need-motions-of-requires
 motions-of-requires c κs = search needs
 
 returns-3 : tie.Need-returns-3
 returns-3 c =
-    let at-if2 = c .before .before .before .before in
+    let at-if2 = c .before .before .before in
     let at-if1 = at-if2 .before .before in
     let at-in-range = at-if1 .before in
     let at-start = at-in-range .before .before in
@@ -54,7 +50,7 @@ returns-3 c =
     (sym (at-in-range .in-range .ensures) ∙ not-false _ (at-if1 .if1 .left))
     (omega (arith, at-start .pre .plunges, at-if2 .if2 .left)) _
     (c .motions-of .ensures ∙ ap₂ (motionsOf (given .scale)) (c .before .before .is-changed .ensures)
-    (c .before .plunge-number .ensures))
+    (c .before .nth-plunge .ensures))
 
 pub motions-at-spec : {M : Type 1} → statement M
 motions-at-spec =
@@ -64,6 +60,6 @@ motions-at-spec =
     returns
     returns-2
     is-changed-requires
-    plunge-number-requires
+    nth-plunge-requires
     motions-of-requires
     returns-3)

@@ -1,0 +1,84 @@
+-- How many digits a numeral has, and that it is its digits.
+use mathlib.Core.Path.{_≡_, refl, sym, ap, _∙_, subst}
+use mathlib.Core.Bool.{cond}
+use mathlib.Core.List.{List, [], _∷_, _++_}
+use Prim.Native.Nat.{ℕ, zero, suc, _+_, _*_, _/_, _%_, _^_, _≤_, _<_}
+use native.Mathlib.Nat.{zero-add, pow-suc, mod-lt, div-lt-iff-lt-mul, le-div-iff-mul-le, le-of-suc-le-suc, lt-of-not-le, le-trans}
+use native.Mathlib.Numerals.{add-one}
+use native.Mathlib.Omega.{arith}
+use borrow.Author.Tests.{lt-ltb, le-ltb}
+use lib.Dec.{lit<, lit≤}
+use lib.ListN.{length}
+use Rattle.numerals.specs.Numerals.{digitByte, digitText, numeralWithin, numeral}
+use Rattle.numerals.specs.Sizes.{IsSize}
+use Rattle.numerals.proofs.Digits.{digits-length}
+
+-- ---- sizes
+
+pub size-one : (n : ℕ) → n < 10 → IsSize n 1
+size-one n h = record { some = lit< tt; enough = h; all = λ j a b. absurd (omega arith) }
+
+-- a tenth part has a digit less
+pub size-less : (n k : ℕ) → IsSize n (suc (suc k)) → IsSize (n / 10) (suc k)
+size-less n k s =
+    record {
+      some = omega arith;
+      enough = div-lt-iff-lt-mul (lit< tt) .1 (subst (λ (x : ℕ). n < x) (pow-suc 10 (suc k)) (s .enough));
+      all = λ j a b. le-div-iff-mul-le (lit< tt) .1 (subst (λ (x : ℕ). x ≤ n) (pow-suc 10 j) (s .all (suc j) (omega arith) (omega arith)));
+    }
+
+pub size-more : (n k : ℕ) → 10 ≤ n → IsSize (n / 10) (suc k) → IsSize n (suc (suc k))
+size-more n k t s =
+    record {
+      some = omega arith;
+      enough = subst (λ (x : ℕ). n < x) (sym (pow-suc 10 (suc k))) (div-lt-iff-lt-mul (lit< tt) .0 (s .enough));
+      all = powers;
+    }
+  where
+    powers : (j : ℕ) → 0 < j → j < suc (suc k) → 10 ^ j ≤ n
+    powers zero a b = absurd (omega arith)
+    powers (suc zero) a b = t
+    powers (suc (suc j)) a b =
+        subst (λ (x : ℕ). x ≤ n) (sym (pow-suc 10 (suc j))) (le-div-iff-mul-le (lit< tt) .0 (s .all (suc j) (omega arith) (omega arith)))
+
+-- no more digits than a bound has
+pub size-most : (m n k : ℕ) → 0 < m → IsSize n k → n < 10 ^ m → k ≤ m
+size-most m n k z s h = le-of-suc-le-suc (lt-of-not-le (λ (g : suc m ≤ k). omega (arith, s .all m z g)))
+
+-- ---- the digits of a numeral
+
+within-digits : (k g n : ℕ) → k ≤ g → IsSize n (suc k) → numeralWithin (suc g) n ≡ digitText 10 (suc k) n
+unfolding numeralWithin
+within-digits zero g n l s =
+    rw (lt-ltb n 10 (s .enough), lt-ltb (n % 10) 10 (mod-lt n (lit< tt)))
+within-digits (suc k) zero n l s = absurd (omega arith)
+within-digits (suc k) (suc g) n l s =
+    rw (le-ltb n 10 (s .all 1 (lit< tt) (omega arith)), lt-ltb (n % 10) 10 (mod-lt n (lit< tt)))
+    (ap (λ (l : List ℕ). l ++ (48 + n % 10) ∷ []) (within-digits k g (n / 10) (omega arith) (size-less n k s)))
+
+pub numeral-digits : (n k : ℕ) → n < 18446744073709551616 → IsSize n k → numeral n ≡ digitText 10 k n
+unfolding numeral
+numeral-digits n zero h s = absurd (omega (arith, s .some))
+numeral-digits n (suc k) h s = within-digits k 19 n (omega (arith, size-most 20 n (suc k) (lit< tt) s (omega arith))) s
+
+pub numeral-length : (n k : ℕ) → n < 18446744073709551616 → IsSize n k → length (numeral n) ≡ k
+numeral-length n k h s = ap length (numeral-digits n k h s) ∙ digits-length 10 k n
+
+-- ---- counting: digits that the rest has, and those that were cut off it
+
+pub record CutOff (n rest count : ℕ) : Type 0 where
+  pub size : (k : ℕ) → IsSize rest (suc k) → IsSize n (k + count)
+  pub bound : count + rest ≤ n + 1
+
+pub cut-none : (n : ℕ) → CutOff n n 1
+cut-none n = record { size = λ k s. subst (IsSize n) (sym (add-one k)) s; bound = omega arith }
+
+pub cut-more : (n rest count : ℕ) → CutOff n rest count → 10 ≤ rest → CutOff n (rest / 10) (count + 1)
+cut-more n rest count c h =
+    record {
+      size = λ k s. let e : suc k + count ≡ k + (count + 1) = omega arith in subst (IsSize n) e (c .size (suc k) (size-more rest k h s));
+      bound = omega (arith, c .bound);
+    }
+
+pub cut-all : (n rest count : ℕ) → CutOff n rest count → rest < 10 → IsSize n count
+cut-all n rest count c h = subst (IsSize n) (zero-add count) (c .size 0 (size-one rest h))
