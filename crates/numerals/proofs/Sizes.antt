@@ -1,14 +1,14 @@
 -- How many digits a numeral has, and that it is its digits.
 use mathlib.Core.Path.{_≡_, refl, sym, ap, _∙_, subst}
-use mathlib.Core.Bool.{cond}
+use mathlib.Core.Bool.{Bool, true, false, cond}
 use mathlib.Core.List.{List, [], _∷_, _++_}
 use Prim.Native.Nat.{ℕ, zero, suc, _+_, _*_, _/_, _%_, _^_, _≤_, _<_}
 use native.Mathlib.Nat.{zero-add, pow-suc, mod-lt, div-lt-iff-lt-mul, le-div-iff-mul-le, le-of-suc-le-suc, lt-of-not-le, le-trans}
 use native.Mathlib.Numerals.{add-one}
 use native.Mathlib.Omega.{arith}
-use borrow.Author.Tests.{lt-ltb, le-ltb}
-use lib.Dec.{lit<, lit≤}
-use lib.ListN.{length}
+use borrow.Author.Tests.{lt-ltb, le-ltb, ltb-false}
+use lib.Dec.{ltb, lit<}
+use lib.ListN.{length, length-append}
 use Rattle.numerals.specs.Numerals.{digitByte, digitText, numeralWithin, numeral}
 use Rattle.numerals.specs.Sizes.{IsSize}
 use Rattle.numerals.proofs.Digits.{digits-length}
@@ -82,3 +82,40 @@ cut-more n rest count c h =
 
 pub cut-all : (n rest count : ℕ) → CutOff n rest count → rest < 10 → IsSize n count
 cut-all n rest count c h = subst (IsSize n) (zero-add count) (c .size 0 (size-one rest h))
+
+-- ---- how long a numeral is at most
+
+within-few : (g n : ℕ) → length (numeralWithin g n) ≤ g
+unfolding numeralWithin
+within-few zero n = omega arith
+within-few (suc g) n = go (within-few g (n / 10)) (ltb n 10)
+  where
+    go : length (numeralWithin g (n / 10)) ≤ g → (b : Bool) → length (cond b [] (numeralWithin g (n / 10)) ++ (48 + n % 10) ∷ []) ≤ suc g
+    go few true = omega arith
+    go few false = omega (arith, length-append (numeralWithin g (n / 10)) ((48 + n % 10) ∷ []), few)
+
+-- never more than 20 digits
+pub numeral-most : (n : ℕ) → length (numeral n) ≤ 20
+unfolding numeral
+numeral-most n = within-few 20 n
+
+within-short : (g m n : ℕ) → n < 10 ^ suc m → length (numeralWithin g n) ≤ suc m
+unfolding numeralWithin
+within-short zero m n h = omega arith
+within-short (suc g) m n h = go (λ k. within-short g k (n / 10)) (ltb n 10) refl m h
+  where
+    go : ((k : ℕ) → n / 10 < 10 ^ suc k → length (numeralWithin g (n / 10)) ≤ suc k) → (b : Bool) → ltb n 10 ≡ b → (m : ℕ) → n < 10 ^ suc m
+        → length (cond b [] (numeralWithin g (n / 10)) ++ (48 + n % 10) ∷ []) ≤ suc m
+    go short true e m h = omega arith
+    go short false e zero h = absurd (omega (arith, ltb-false n 10 e, h))
+    go short false e (suc m) h =
+        omega (
+          arith,
+          length-append (numeralWithin g (n / 10)) ((48 + n % 10) ∷ []),
+          short m (div-lt-iff-lt-mul (lit< tt) .1 (subst (λ (x : ℕ). n < x) (pow-suc 10 (suc m)) h)),
+        )
+
+-- no more digits than a bound has
+pub numeral-short : (m n : ℕ) → n < 10 ^ suc m → length (numeral n) ≤ suc m
+unfolding numeral
+numeral-short m n h = within-short 20 m n h

@@ -52,15 +52,10 @@ fn print_plate(plate: Plate) {
     print_text(b"\n");
 }
 
-// The number of plunges in a file of so many bytes.
-fn plunges_in(bytes: usize) -> usize {
-    if bytes < 13 { 0 } else { (bytes - 13) / 7 }
-}
-
 // A file as `plunges` prints it, a long one by its plate alone; then its bytes, or two sums of them.
 fn print_file(plate: Plate, file: &[u8]) {
     if file.len() <= TEXT {
-        text::print_file(STDOUT_FILENO, file, plunges_in(file.len()));
+        printing::print_file(STDOUT_FILENO, file);
     } else {
         print_plate(plate);
     }

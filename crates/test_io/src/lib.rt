@@ -157,7 +157,7 @@ pub fn print_bits(n: u64) {
 }
 
 pub fn print_refusal(refusal: Refusal) {
-    text::print_refusal(STDOUT_FILENO, refusal);
+    printing::print_refusal(STDOUT_FILENO, refusal);
 }
 
 // The bytes in hexadecimal, separated by blanks.

@@ -1,53 +1,165 @@
--- Laws of texts put into a page: one after another, and a number by its digits.
-use mathlib.Core.Path.{_≡_, _∙_, ap}
-use mathlib.Core.List.{List, [], _∷_, _++_}
-use Prim.Native.Nat.{ℕ, _+_, _/_, _%_, _≤_, _<_}
+-- Texts put one after another; how long a line is; pages.
+use mathlib.Core.Path.{_≡_, refl, sym, ap, ap₂, _∙_, subst}
+use mathlib.Core.Bool.{Bool, true, false, cond}
+use mathlib.Core.List.{List, [], _∷_, _++_, append-assoc, append-nil}
+use Prim.Native.Nat.{ℕ, zero, suc, _+_, _-_, _≤_, _<_}
 use native.Mathlib.Omega.{arith}
-use native.Mathlib.Numerals.{add-one, add-two, add-three}
-use lib.ListN.{length, set, length-append}
-use lib.Seq.{sets-eq, length-take-le}
-use borrow.Author.Tests.{lt-ltb, le-ltb}
+use native.Mathlib.Numerals.{add-one}
+use native.Mathlib.Nat.{add-zero, zero-add, le-antisymm}
+use lib.ListN.{length, take, set, getD, length-append, length-set}
+use lib.Seq.{sets-eq, length-take-le, take-suc, take-length}
 use Rattle.fields.specs.Writing.{spliced}
-use Rattle.fields.proofs.Splice.{splice-splice, splice-length}
+use Rattle.fields.proofs.Splice.{splice-nil, splice-splice, splice-length, splice-start}
+use lib.Dec.{lit<}
+use Rattle.geometry.specs.declared.Kind.{Kind}
+use Rattle.geometry.specs.declared.Kind.the-variants.{Diamond, Square}
+use Rattle.geometry.specs.declared.Head.{Head}
+use Rattle.geometry.specs.declared.Plunge.{Plunge}
+use Rattle.geometry.specs.Forms.{kindByte}
+use Rattle.refusal.specs.declared.Refusal.{Refusal}
 use Rattle.io.specs.Counts.{Counts}
-use Rattle.text.specs.Text.{word, Puts}
+use Rattle.numerals.specs.Numerals.{numeral, Puts}
+use Rattle.numerals.proofs.Sizes.{numeral-most, numeral-short}
+use Rattle.text.specs.Text.{word, plateWord, totalWord, refusedWord, plateLine, plungeLine, totalLine, refusalLine}
 
-pub puts-length : (old : List ℕ) (at : ℕ) (xs new : List ℕ) (r : ℕ) → Puts old at xs new r → r ≤ length old → length new ≡ length old
-puts-length old at xs new r p h = ap length (p .0) ∙ splice-length old at xs (omega (arith, p .1))
+pub counts : (n : ℕ) (l : List ℕ) → n ≤ length l → Counts n l
+counts n l h = (h, sym (length-take-le n l h))
+
+-- ---- one text after another
+
+pub puts-length : (old : List ℕ) (at : ℕ) (xs new : List ℕ) (r : ℕ) → Puts old at xs new r → at + length xs ≤ length old → length new ≡ length old
+puts-length old at xs new r p h = ap length (p .0) ∙ splice-length old at xs h
+
+-- the place behind a text counts bytes of the buffer
+pub puts-counts : (old : List ℕ) (at : ℕ) (xs new : List ℕ) (r : ℕ) → Puts old at xs new r → at + length xs ≤ length old → Counts r new
+puts-counts old at xs new r p h = counts r new (omega (arith, p .1, puts-length old at xs new r p h))
 
 -- two texts, the second where the first ended, are one
 pub puts-puts : (old : List ℕ) (at : ℕ) (xs : List ℕ) (mid : List ℕ) (r : ℕ) (ys : List ℕ) (new : List ℕ) (s : ℕ)
-    → Puts old at xs mid r → Puts mid r ys new s → r ≤ length old → Puts old at (xs ++ ys) new s
+    → Puts old at xs mid r → Puts mid r ys new s → at + length xs ≤ length old → Puts old at (xs ++ ys) new s
 puts-puts old at xs mid r ys new s p q h = (
-  q .0 ∙ ap (λ l. spliced l r ys) (p .0) ∙ ap (λ n. spliced (spliced old at xs) n ys) (p .1) ∙ splice-splice old at xs ys (omega (arith, p .1)),
+  q .0 ∙ ap (λ l. spliced l r ys) (p .0) ∙ ap (λ n. spliced (spliced old at xs) n ys) (p .1) ∙ splice-splice old at xs ys h,
   omega (arith, p .1, q .1, length-append xs ys),
 )
 
--- ---- a number and the character after it
+-- one byte behind a text
+pub puts-byte : (old : List ℕ) (at : ℕ) (xs mid : List ℕ) (r b : ℕ) → Puts old at xs mid r → at + length (xs ++ b ∷ []) ≤ length old
+    → Puts old at (xs ++ b ∷ []) (set mid r b) (r + 1)
+puts-byte old at xs mid r b p h =
+    let l = length-append xs (b ∷ []) in
+    let m : length mid ≡ length old = puts-length old at xs mid r p (omega (arith, l)) in
+    puts-puts old at xs mid r (b ∷ []) (set mid r b) (r + 1) p (sets-eq (b ∷ []) mid r (omega (arith, l, m, p .1)), refl) (omega (arith, l))
 
-module _ (l : List ℕ) (i n mark : ℕ) (h : i + 4 ≤ length l) where
-  pub word-1 : n < 10 → Puts l i (word n mark) (set (set l i (48 + n)) (i + 1) mark) (i + 2)
-  word-1 g = rw (lt-ltb n 10 g, add-one i) (sets-eq ((48 + n) ∷ mark ∷ []) l i (omega arith), omega arith)
+-- ---- texts in a row, where all of them have room
 
-  pub word-2 : 10 ≤ n → n < 100 → Puts l i (word n mark) (set (set (set l i (48 + n / 10)) (i + 1) (48 + n % 10)) (i + 2) mark) (i + 3)
-  word-2 g k = rw (le-ltb n 10 g, lt-ltb n 100 k, add-one i, add-two i) (sets-eq ((48 + n / 10) ∷ (48 + n % 10) ∷ mark ∷ []) l i (omega arith), omega arith)
+module _ (old : List ℕ) (at : ℕ) (x y : List ℕ) (h : at + length (x ++ y) ≤ length old) where
+  pub first-room : at + length x ≤ length old
+  first-room = omega (arith, length-append x y)
 
-  pub word-3 : 10 ≤ n → 100 ≤ n
-      → Puts l i (word n mark) (set (set (set (set l i (48 + n / 100)) (i + 1) (48 + n / 10 % 10)) (i + 2) (48 + n % 10)) (i + 3) mark) (i + 4)
-  word-3 g k =
-      rw (le-ltb n 10 g, le-ltb n 100 k, add-one i, add-two i, add-three i)
-      (sets-eq ((48 + n / 100) ∷ (48 + n / 10 % 10) ∷ (48 + n % 10) ∷ mark ∷ []) l i (omega arith), omega arith)
+  pub next-room : (mid : List ℕ) (r : ℕ) → Puts old at x mid r → r + length y ≤ length mid
+  next-room mid r p = omega (arith, length-append x y, p .1, puts-length old at x mid r p first-room)
 
--- ---- four texts, one after another
+  pub two-texts : (mid new : List ℕ) (r s : ℕ) → Puts old at x mid r → Puts mid r y new s → Puts old at (x ++ y) new s
+  two-texts mid new r s p q = puts-puts old at x mid r y new s p q first-room
 
-pub four-texts : (l : List ℕ) (at : ℕ) (ws xs ys zs l1 l2 l3 l4 : List ℕ) (r1 r2 r3 r4 : ℕ)
-    → Puts l at ws l1 r1 → Puts l1 r1 xs l2 r2 → Puts l2 r2 ys l3 r3 → Puts l3 r3 zs l4 r4
-    → r1 ≤ length l → r2 ≤ length l → r3 ≤ length l → Puts l at (ws ++ xs ++ ys ++ zs) l4 r4
-four-texts l at ws xs ys zs l1 l2 l3 l4 r1 r2 r3 r4 p q s t h1 h2 h3 =
-    puts-puts l at (ws ++ xs ++ ys) l3 r3 zs l4 r4
-    (puts-puts l at (ws ++ xs) l2 r2 ys l3 r3 (puts-puts l at ws l1 r1 xs l2 r2 p q h1) s h2)
-    t
-    h3
+module _ (old : List ℕ) (at : ℕ) (x y z : List ℕ) (h : at + length (x ++ y ++ z) ≤ length old) where
+  two-room : at + length (x ++ y) ≤ length old
+  two-room = first-room old at (x ++ y) z h
 
-pub counts : (n : ℕ) (l : List ℕ) → n ≤ length l → Counts n l
-counts n l h = (h, omega (arith, length-take-le n l h))
+  pub room-1 : at + length x ≤ length old
+  room-1 = first-room old at x y two-room
+
+  module _ (l1 : List ℕ) (r1 : ℕ) (p : Puts old at x l1 r1) where
+    pub room-2 : r1 + length y ≤ length l1
+    room-2 = next-room old at x y two-room l1 r1 p
+
+    module _ (l2 : List ℕ) (r2 : ℕ) (q : Puts l1 r1 y l2 r2) where
+      both : Puts old at (x ++ y) l2 r2
+      both = two-texts old at x y two-room l1 l2 r1 r2 p q
+
+      pub room-3 : r2 + length z ≤ length l2
+      room-3 = next-room old at (x ++ y) z h l2 r2 both
+
+      pub three-texts : (l3 : List ℕ) (r3 : ℕ) → Puts l2 r2 z l3 r3 → Puts old at (x ++ y ++ z) l3 r3
+      three-texts l3 r3 s = two-texts old at (x ++ y) z h l2 l3 r2 r3 both s
+
+-- ---- bytes copied one by one
+
+pub record Copied (old : List ℕ) (at : ℕ) (bs page : List ℕ) (i : ℕ) : Type 0 where
+  pub within : i ≤ length bs
+  pub bytes : page ≡ spliced old at (take i bs)
+  pub same : length page ≡ length old
+
+module _ (old : List ℕ) (at : ℕ) (bs : List ℕ) (h : at + length bs ≤ length old) where
+  pub copied-none : Copied old at bs old 0
+  copied-none = record { within = omega arith; bytes = sym (splice-nil old at); same = refl }
+
+  pub copied-more : (page : List ℕ) (i : ℕ) → Copied old at bs page i → i < length bs → Copied old at bs (set page (at + i) (getD bs i 0)) (i + 1)
+  copied-more page i c l =
+      record {
+        within = omega arith;
+        bytes = puts-byte old at (take i bs) page (at + i) (getD bs i 0) (c .bytes, ap (λ (n : ℕ). at + n) (sym taken))
+            (omega (arith, length-append (take i bs) (getD bs i 0 ∷ []), taken)) .0 ∙ ap (spliced old at) (sym (rw (add-one i) (take-suc bs i 0 l)));
+        same = length-set page (at + i) (getD bs i 0) ∙ c .same;
+      }
+    where
+      taken : length (take i bs) ≡ i
+      taken = length-take-le i bs (omega arith)
+
+  pub copied-all : (page : List ℕ) (i : ℕ) → Copied old at bs page i → length bs ≤ i → Puts old at bs page (at + i)
+  copied-all page i c l =
+      let e : i ≡ length bs = le-antisymm (c .within) l in
+      (c .bytes ∙ ap (spliced old at) (ap (λ (n : ℕ). take n bs) e ∙ take-length bs), ap (λ (n : ℕ). at + n) e)
+
+-- ---- how long a line is
+
+word-length : (n mark : ℕ) → length (word n mark) ≡ length (numeral n) + 1
+word-length n mark = length-append (numeral n) (mark ∷ [])
+
+pub refusal-room : (r : Refusal) (page : List ℕ) → 64 ≤ length page → 0 + length (refusalLine r) ≤ length page
+refusal-room r page h =
+    omega (
+      arith,
+      length-append (refusedWord ++ word (r .number) 32) (word (r .place) 10),
+      length-append refusedWord (word (r .number) 32),
+      word-length (r .number) 32,
+      word-length (r .place) 10,
+      numeral-most (r .number),
+      numeral-most (r .place),
+    )
+
+pub total-room : (n : ℕ) → length (totalLine n) ≤ 32
+total-room n = omega (arith, length-append totalWord (word n 10), word-length n 10, numeral-most n)
+
+-- a word of a number below 65536 has six characters at most
+word-short : (n mark : ℕ) → n < 65536 → length (word n mark) ≤ 6
+word-short n mark h = omega (arith, word-length n mark, numeral-short 4 n (omega arith))
+
+pub plunge-room : (q : Plunge) → q .column < 65536 → q .row < 65536 → q .reach .0 < 65536 → q .depth < 65536 → length (plungeLine q) ≤ 32
+plunge-room q c r k d =
+    omega (
+      arith,
+      length-append (word (q .reach .0) 32 ++ word (q .row) 32 ++ word (q .column) 32) (word (q .depth) 10),
+      length-append (word (q .reach .0) 32 ++ word (q .row) 32) (word (q .column) 32),
+      length-append (word (q .reach .0) 32) (word (q .row) 32),
+      word-short (q .reach .0) 32 k,
+      word-short (q .row) 32 r,
+      word-short (q .column) 32 c,
+      word-short (q .depth) 10 d,
+    )
+
+pub plate-room : (p : Head) → p .width < 65536 → p .height < 65536 → length (plateLine p) ≤ 32
+plate-room p w h =
+    omega (
+      arith,
+      length-append (plateWord ++ word (kindByte (p .kind)) 32 ++ word (p .width) 32) (word (p .height) 10),
+      length-append (plateWord ++ word (kindByte (p .kind)) 32) (word (p .width) 32),
+      length-append plateWord (word (kindByte (p .kind)) 32),
+      word-short (kindByte (p .kind)) 32 (kind-short (p .kind)),
+      word-short (p .width) 32 w,
+      word-short (p .height) 10 h,
+    )
+  where
+    kind-short : (k : Kind) → kindByte k < 65536
+    kind-short Diamond = lit< tt
+    kind-short Square = lit< tt

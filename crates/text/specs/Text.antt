@@ -1,34 +1,54 @@
--- To be believed: Document 01's text of a list, in ASCII.
-use mathlib.Core.Path.{_≡_}
-use mathlib.Core.Bool.{cond}
+-- To be believed: document 01's text of a list and of a refusal, in ASCII.
 use mathlib.Core.List.{List, [], _∷_, _++_}
-use Prim.Native.Nat.{ℕ, _+_, _/_, _%_}
-use lib.Dec.{ltb}
+use Prim.Native.Nat.{ℕ}
 use lib.ListN.{length}
-use Rattle.fields.specs.Writing.{spliced}
-
--- a number below 1000 in decimal, with no zeros in front
-abbrev pub numeral : ℕ → List ℕ
-numeral n =
-    cond (ltb n 10) ((48 + n) ∷ [])
-    (cond (ltb n 100) ((48 + n / 10) ∷ (48 + n % 10) ∷ []) ((48 + n / 100) ∷ (48 + n / 10 % 10) ∷ (48 + n % 10) ∷ []))
+use Rattle.geometry.specs.declared.Head.{Head}
+use Rattle.geometry.specs.declared.Plunge.{Plunge}
+use Rattle.geometry.specs.Forms.{kindByte}
+use Rattle.refusal.specs.declared.Refusal.{Refusal}
+use Rattle.refusal.specs.declared.Verdict.{Verdict}
+use Rattle.refusal.specs.declared.Verdict.the-variants.{Accepted, Refused}
+use Rattle.numerals.specs.Numerals.{numeral}
 
 -- a number and the character after it: a blank is 32, a line's end 10
 abbrev pub word : ℕ → ℕ → List ℕ
 word n mark = numeral n ++ (mark ∷ [])
 
--- "plate "
+-- "plate ", "total ", "refused "
 abbrev pub plateWord : List ℕ
 plateWord = 112 ∷ 108 ∷ 97 ∷ 116 ∷ 101 ∷ 32 ∷ []
 
+abbrev pub totalWord : List ℕ
+totalWord = 116 ∷ 111 ∷ 116 ∷ 97 ∷ 108 ∷ 32 ∷ []
+
+abbrev pub refusedWord : List ℕ
+refusedWord = 114 ∷ 101 ∷ 102 ∷ 117 ∷ 115 ∷ 101 ∷ 100 ∷ 32 ∷ []
+
 -- "plate 8 3 3": "it prints kind, width and height"
-abbrev pub plateLine : ℕ → ℕ → ℕ → List ℕ
-plateLine kind width height = plateWord ++ word kind 32 ++ word width 32 ++ word height 10
+abbrev pub plateLine : Head → List ℕ
+plateLine p = plateWord ++ word (kindByte (p .kind)) 32 ++ word (p .width) 32 ++ word (p .height) 10
 
 -- "0 1 1 9": "then reach, row, column, depth for each"
-abbrev pub plungeLine : ℕ → ℕ → ℕ → ℕ → List ℕ
-plungeLine column row reach depth = word reach 32 ++ word row 32 ++ word column 32 ++ word depth 10
+abbrev pub plungeLine : Plunge → List ℕ
+plungeLine q = word (q .reach .0) 32 ++ word (q .row) 32 ++ word (q .column) 32 ++ word (q .depth) 10
 
--- a text put at a place of a page: the page's bytes after, and the place behind the text
-abbrev pub Puts : List ℕ → ℕ → List ℕ → List ℕ → ℕ → Type 0
-Puts old at text new r = (new ≡ spliced old at text) × (r ≡ at + length text)
+abbrev pub plungeLines : List Plunge → List ℕ
+plungeLines [] = []
+plungeLines (q ∷ qs) = plungeLine q ++ plungeLines qs
+
+-- "total 2": "then the total"
+abbrev pub totalLine : ℕ → List ℕ
+totalLine n = totalWord ++ word n 10
+
+-- the whole text of a list
+abbrev pub listText : Head → List Plunge → List ℕ
+listText p qs = plateLine p ++ plungeLines qs ++ totalLine (length qs)
+
+-- "refused 1 0": "A refusal prints one line only, the word, the number and the place"
+abbrev pub refusalLine : Refusal → List ℕ
+refusalLine r = refusedWord ++ word (r .number) 32 ++ word (r .place) 10
+
+-- the text of a verdict on a list: the list's, or the refusal's one line
+abbrev pub answerText : Verdict → Head → List Plunge → List ℕ
+answerText Accepted p qs = listText p qs
+answerText (Refused r) p qs = refusalLine r

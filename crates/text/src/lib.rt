@@ -1,182 +1,126 @@
-// Document 01's text of a list: a line for the plate, one for each plunge, and the total; gathered in pages.
+// Document 01's text of a list, a line for the plate, one for each plunge and the total, and of a refusal; put into slices.
+use geometry::Head;
+use geometry::Plunge;
+use reading::Job;
 use refusal::Refusal;
+ghost use mathlib.Core.Path.{_≡_};
 ghost use Prim.Native.Nat.{_+_, _≤_};
 ghost use lib.ListN.{length};
 ghost use Rattle.io.specs.Counts.{Counts};
-ghost use Rattle.text.specs.Text.{word, plateWord, plateLine, plungeLine, Puts};
+ghost use Rattle.numerals.specs.Numerals.{Puts};
+ghost use Rattle.reading.specs.Steps.{JobOf};
+ghost use Rattle.text.specs.Text.{word, plateLine, plungeLine, totalLine, refusalLine};
+ghost use Rattle.text.specs.Pages.{lineAt, lineCount, PageOf};
 
-// Room for any line, and for the three of a plunge's motions.
-const LINE: usize = 256;
+// Room for any line of a list's text.
+pub const LINE: usize = 32;
 
-// How much of a page is used, and whether all pages before it were written.
+// How much of a page is used, and which part of the text comes next.
 pub struct Page {
     pub used: usize,
-    pub ok: bool,
+    pub next: usize,
+}
+
+// ---- words
+
+// Bytes at a place; gives the place behind them.
+pub fn put_bytes(page: &mut [u8], at: usize, bytes: &[u8]) -> usize
+    requires { ⌜ at + length (now bytes) ≤ length (now page) ⌝ }
+    ensures { λ r. ⌜ Puts (now (page .entry)) at (now (bytes .entry)) (now (page .exit)) r ⌝ }
+{
+    let mut i = 0;
+    while i < bytes.len() {
+        page[at + i] = bytes[i];
+        i += 1;
+    }
+    at + i
+}
+
+// A number in decimal and the character after it.
+fn put_word(page: &mut [u8], at: usize, n: u64, mark: u8) -> usize
+    requires { ⌜ at + length (word n mark) ≤ length (now page) ⌝ }
+    ensures { λ r. ⌜ Puts (now (page .entry)) at (word n mark) (now (page .exit)) r ⌝ }
+{
+    let end = numerals::put_numeral(n, page, at);
+    page[end] = mark;
+    end + 1
 }
 
 // ---- lines
 
-// A number in decimal and the character after it; gives the place behind them.
-fn put_word(page: &mut [u8], at: usize, n: u8, mark: u8) -> usize
-    requires { ⌜ at + 4 ≤ length (now page) ⌝ }
-    ensures { λ r. ⌜ Puts (now (page .entry)) at (word n mark) (now (page .exit)) r × (r ≤ at + 4) ⌝ }
+// The line of a plate.
+fn put_plate(page: &mut [u8], at: usize, head: Head) -> usize
+    requires { ⌜ at + length (plateLine head) ≤ length (now page) ⌝ }
+    ensures { λ r. ⌜ Puts (now (page .entry)) at (plateLine head) (now (page .exit)) r ⌝ }
 {
-    if n < 10 {
-        page[at] = 48 + n;
-        page[at + 1] = mark;
-        return at + 2;
-    }
-    if n < 100 {
-        page[at] = 48 + n / 10;
-        page[at + 1] = 48 + n % 10;
-        page[at + 2] = mark;
-        return at + 3;
-    }
-    page[at] = 48 + n / 100;
-    page[at + 1] = 48 + n / 10 % 10;
-    page[at + 2] = 48 + n % 10;
-    page[at + 3] = mark;
-    at + 4
+    let kind = head.kind;
+    let a = put_bytes(page, at, b"plate ");
+    let b = put_word(page, a, kind.byte() as u64, b' ');
+    let c = put_word(page, b, head.width as u64, b' ');
+    put_word(page, c, head.height as u64, b'\n')
 }
 
-fn put_plate_word(page: &mut [u8]) -> usize
-    requires { ⌜ 6 ≤ length (now page) ⌝ }
-    ensures { λ r. ⌜ Puts (now (page .entry)) 0 plateWord (now (page .exit)) r × (r ≤ 6) ⌝ }
+// The line of a plunge.
+fn put_plunge(page: &mut [u8], at: usize, q: Plunge) -> usize
+    requires { ⌜ at + length (plungeLine q) ≤ length (now page) ⌝ }
+    ensures { λ r. ⌜ Puts (now (page .entry)) at (plungeLine q) (now (page .exit)) r ⌝ }
 {
-    page[0] = b'p';
-    page[1] = b'l';
-    page[2] = b'a';
-    page[3] = b't';
-    page[4] = b'e';
-    page[5] = b' ';
-    6
+    let a = put_word(page, at, q.reach.0 as u64, b' ');
+    let b = put_word(page, a, q.row as u64, b' ');
+    let c = put_word(page, b, q.column as u64, b' ');
+    put_word(page, c, q.depth as u64, b'\n')
 }
 
-// The line of a plate, at the start of a page; gives its length.
-pub fn put_plate(page: &mut [u8], kind: u8, width: u8, height: u8) -> usize
-    requires { ⌜ 18 ≤ length (now page) ⌝ }
-    ensures { λ r. ⌜ Puts (now (page .entry)) 0 (plateLine kind width height) (now (page .exit)) r × (r ≤ 18) ⌝ }
-{
-    let name = put_plate_word(page);
-    let a = put_word(page, name, kind, b' ');
-    let b = put_word(page, a, width, b' ');
-    put_word(page, b, height, b'\n')
-}
-
-// The line of a plunge; gives the place behind it.
-pub fn put_plunge(page: &mut [u8], at: usize, column: u8, row: u8, reach: u8, depth: u8) -> usize
-    requires { ⌜ at + 16 ≤ length (now page) ⌝ }
-    ensures { λ r. ⌜ Puts (now (page .entry)) at (plungeLine column row reach depth) (now (page .exit)) r × (r ≤ at + 16) ⌝ }
-{
-    let a = put_word(page, at, reach, b' ');
-    let b = put_word(page, a, row, b' ');
-    let c = put_word(page, b, column, b' ');
-    put_word(page, c, depth, b'\n')
-}
-
-// Bytes at a place of a page, as far as there is room; gives the place behind them.
-pub fn put(page: &mut [u8], at: usize, bytes: &[u8]) -> usize
-    requires { ⌜ at ≤ length (now page) ⌝ }
-    ensures { λ r. ⌜ Counts r (now (page .exit)) ⌝ }
-{
-    let mut end = at;
-    let mut i = 0;
-    while i < bytes.len() {
-        if page.len() <= end {
-            return end;
-        }
-        page[end] = bytes[i];
-        end += 1;
-        i += 1;
-    }
-    end
-}
-
-// ---- pages
-
-// A page with room for a line: it is written first if it has none.
-pub fn make_room(fd: i32, page: &[u8], used: usize) -> Page
-    requires { ⌜ (256 ≤ length (now page)) × (used ≤ length (now page)) ⌝ }
-    ensures { λ r. ⌜ r .used + 256 ≤ length (now (page .entry)) ⌝ }
-{
-    if LINE <= page.len() - used {
-        return Page { used, ok: true };
-    }
-    Page {
-        used: 0,
-        ok: io::write_all(fd, &page[..used]),
-    }
-}
-
-// A line for each of the file's plunges.
-fn put_plunges(fd: i32, file: &[u8], plunges: usize, page: &mut [u8], start: usize) -> Page
-    requires { ⌜ (256 ≤ length (now page)) × (start ≤ length (now page)) ⌝ }
-    ensures { λ r. ⌜ r .used ≤ length (now (page .entry)) ⌝ }
-{
-    let mut used = start;
-    let mut at = fields::HEAD_BYTES;
-    let mut i = 0;
-    while i < plunges {
-        if file.len() < fields::PLUNGE_BYTES {
-            return Page { used, ok: false };
-        }
-        if file.len() - fields::PLUNGE_BYTES < at {
-            return Page { used, ok: false };
-        }
-        let room = make_room(fd, page, used);
-        if !room.ok {
-            return room;
-        }
-        used = put_plunge(
-            page,
-            room.used,
-            file[at + 3],
-            file[at + 4],
-            file[at + 5],
-            file[at + 6],
-        );
-        at += fields::PLUNGE_BYTES;
-        i += 1;
-    }
-    Page { used, ok: true }
-}
-
-// "then the total"; gives the place behind the line.
+// The line of the total.
 fn put_total(page: &mut [u8], at: usize, plunges: usize) -> usize
-    requires { ⌜ at ≤ length (now page) ⌝ }
-    ensures { λ r. ⌜ Counts r (now (page .exit)) ⌝ }
+    requires { ⌜ at + length (totalLine plunges) ≤ length (now page) ⌝ }
+    ensures { λ r. ⌜ Puts (now (page .entry)) at (totalLine plunges) (now (page .exit)) r ⌝ }
 {
-    let mut digits = [0u8; 20];
-    let n = io::decimal(plunges as u64, &mut digits);
-    let a = put(page, at, b"total ");
-    let b = put(page, a, &digits[..n]);
-    put(page, b, b"\n")
+    let a = put_bytes(page, at, b"total ");
+    put_word(page, a, plunges as u64, b'\n')
 }
 
-// The text of a readable file with so many plunges; gives whether all of it was written.
-pub fn print_file(fd: i32, file: &[u8], plunges: usize) -> bool {
-    if file.len() < fields::HEAD_BYTES {
-        return false;
-    }
-    let mut page = io::large_buffer();
-    let start = put_plate(&mut page, file[3], file[4], file[5]);
-    let lines = put_plunges(fd, file, plunges, &mut page, start);
-    if !lines.ok {
-        return false;
-    }
-    let room = make_room(fd, &page, lines.used);
-    if !room.ok {
-        return false;
-    }
-    let end = put_total(&mut page, room.used, plunges);
-    io::write_all(fd, &page[..end])
+// The line of a refusal, at the start of a page; gives its length.
+pub fn put_refusal(page: &mut [u8], refusal: Refusal) -> usize
+    requires { ⌜ 64 ≤ length (now page) ⌝ }
+    ensures { λ r. ⌜ Puts (now (page .entry)) 0 (refusalLine refusal) (now (page .exit)) r × Counts r (now (page .exit)) ⌝ }
+{
+    let a = put_bytes(page, 0, b"refused ");
+    let b = put_word(page, a, refusal.number as u64, b' ');
+    put_word(page, b, refusal.place as u64, b'\n')
 }
 
-// "the word, the number and the place"
-pub fn print_refusal(fd: i32, refusal: Refusal) -> bool {
-    io::write_all(fd, b"refused ");
-    io::print_decimal(fd, refusal.number as u64);
-    io::write_all(fd, b" ");
-    io::print_decimal(fd, refusal.place as u64);
-    io::write_all(fd, b"\n")
+// ---- the text of a file
+
+// Line i of the text of a readable file.
+fn put_line(page: &mut [u8], at: usize, file: &[u8], job: Job, i: usize) -> usize
+    requires { ⌜ JobOf (now file) job × (at + 32 ≤ length (now page)) ⌝ }
+    ensures { λ r. ⌜ Puts (now (page .entry)) at (lineAt (now (file .entry)) i) (now (page .exit)) r × (r ≤ at + 32) ⌝ }
+{
+    if i == 0 {
+        return put_plate(page, at, job.head);
+    }
+    if job.plunges < i {
+        return put_total(page, at, job.plunges);
+    }
+    let q = reading::nth_plunge(file, job, i - 1);
+    put_plunge(page, at, q)
+}
+
+// The lines of the text of a readable file from one on, as many as the page has room for.
+pub fn put_page(page: &mut [u8], file: &[u8], job: Job, from: usize) -> Page
+    requires { ⌜ JobOf (now file) job × (from ≤ lineCount (now file)) ⌝ }
+    ensures { λ r. ⌜ PageOf (lineAt (now (file .entry))) (lineCount (now (file .entry))) 32 from (now (page .entry)) (now (page .exit)) r × Counts (r .used) (now (page .exit)) ⌝ }
+{
+    let plunges = job.plunges;
+    let mut used = 0;
+    let mut next = from;
+    while next <= plunges + 1 {
+        if page.len() - used < LINE {
+            return Page { used, next };
+        }
+        used = put_line(page, used, file, job, next);
+        next += 1;
+    }
+    Page { used, next }
 }

@@ -1,60 +1,140 @@
--- `put_plate` writes its word and three numbers, one after another.
+-- `put_plate` puts a word and three numbers, one after another.
 use borrow.Author.Needs.{needs}
 use Rattle.text.proofs.put_plate.Statement.{statement}
 use Rattle.text.proofs.put_plate.Tie as tie
 use Rattle.text.proofs.put_plate.Reads as reads
 use Rattle.text.proofs.put_plate.Lts as lts
-use Rattle.text.proofs.put_plate_word.Reads as put-plate-word-reads
-use Rattle.text.proofs.put_word.Reads as put-word-reads
-use native.Mathlib.Omega.{arith}
+use mathlib.Core.Path.{sym, subst}
+use mathlib.Core.List.{_++_}
+use Prim.Native.Nat.{ℕ, _+_, _≤_}
+use lib.ListN.{length}
+use Rattle.numerals.specs.Numerals.{Puts}
+use Rattle.geometry.specs.Forms.{kindByte}
 use Rattle.text.specs.Text.{word, plateWord}
-use Rattle.text.proofs.Lines.{four-texts}
+use Rattle.text.proofs.Lines.{first-room, next-room, two-texts, room-1, room-2, room-3, three-texts}
+use Rattle.geometry.proofs.Kind.byte.Reads as byte-reads
+use Rattle.text.proofs.put_bytes.Reads as put-bytes-reads
+use Rattle.text.proofs.put_word.Reads as put-word-reads
 
--- src/lib.rt:54:9
-put-plate-word-requires : tie.Need-put-plate-word-requires
-put-plate-word-requires c κs = search needs
+slice-aggregate-put-bytes : tie.Need-slice-aggregate-put-bytes
+slice-aggregate-put-bytes c = search needs
 
--- src/lib.rt:55:9
+put-bytes-requires : tie.Need-put-bytes-requires
+put-bytes-requires c κs =
+    let at-start = c .before .before .before in
+    let given = at-start .args in
+    let l = given .page .now in
+    let at = given .at in
+    let k = kindByte (given .head .kind) in
+    let w2 = word k 32 in
+    let w3 = word (given .head .width) 32 in
+    let w4 = word (given .head .height) 10 in
+    let pre = at-start .pre in
+    let h = first-room l at (plateWord ++ w2 ++ w3) w4 pre in
+    room-1 l at plateWord w2 w3 h
+
+byte-requires : tie.Need-byte-requires
+byte-requires c κs = search needs
+
+cast-put-word : tie.Need-cast-put-word
+cast-put-word c = search needs
+
 put-word-requires : tie.Need-put-word-requires
-put-word-requires c κs = search needs
+put-word-requires c κs =
+    let at-start = c .before .before .before .before .before .before .before .before in
+    let given = at-start .args in
+    let l = given .page .now in
+    let at = given .at in
+    let k = c .byte .result in
+    let w2 = word k 32 in
+    let w3 = word (given .head .width) 32 in
+    let w4 = word (given .head .height) 10 in
+    let pre : at + length (plateWord ++ w2 ++ w3 ++ w4) ≤ length l = subst
+        (λ (n : ℕ). at + length (plateWord ++ word n 32 ++ w3 ++ w4) ≤ length l) (sym (c .byte .ensures)) (at-start .pre) in
+    let h = first-room l at (plateWord ++ w2 ++ w3) w4 pre in
+    let p1 = c .before .before .before .before .«put-bytes» in
+    room-2 l at plateWord w2 w3 h (p1 .last .0) (p1 .result) (p1 .ensures)
 
--- src/lib.rt:56:9
+cast-put-word-2 : tie.Need-cast-put-word-2
+cast-put-word-2 c = search needs
+
 put-word-requires-2 : tie.Need-put-word-requires-2
-put-word-requires-2 c κs = search needs
+put-word-requires-2 c κs =
+    let at-start = c .before .before .before .before .before .before .before .before .before .before .before .before .before in
+    let given = at-start .args in
+    let l = given .page .now in
+    let at = given .at in
+    let k = c .before .before .before .before .before .byte .result in
+    let w2 = word k 32 in
+    let w3 = word (given .head .width) 32 in
+    let w4 = word (given .head .height) 10 in
+    let pre : at + length (plateWord ++ w2 ++ w3 ++ w4) ≤ length l = subst
+        (λ (n : ℕ). at + length (plateWord ++ word n 32 ++ w3 ++ w4) ≤ length l) (sym (c .before .before .before .before .before .byte .ensures)) (at-start .pre) in
+    let h = first-room l at (plateWord ++ w2 ++ w3) w4 pre in
+    let p1 = c .before .before .before .before .before .before .before .before .before .«put-bytes» in
+    let p2 = c .before .before .before .before .«put-word» in
+    room-3 l at plateWord w2 w3 h (p1 .last .0) (p1 .result) (p1 .ensures) (p2 .last .0) (p2 .result) (p2 .ensures)
 
--- src/lib.rt:57:5
+cast-put-word-3 : tie.Need-cast-put-word-3
+cast-put-word-3 c = search needs
+
 put-word-requires-3 : tie.Need-put-word-requires-3
-put-word-requires-3 c κs = search needs
+put-word-requires-3 c κs =
+    let at-start = c .before .before .before .before .before .before .before .before .before .before .before .before .before .before .before .before .before .before in
+    let given = at-start .args in
+    let l = given .page .now in
+    let at = given .at in
+    let k = c .before .before .before .before .before .before .before .before .before .before .byte .result in
+    let w2 = word k 32 in
+    let w3 = word (given .head .width) 32 in
+    let w4 = word (given .head .height) 10 in
+    let pre : at + length (plateWord ++ w2 ++ w3 ++ w4) ≤ length l = subst
+        (λ (n : ℕ). at + length (plateWord ++ word n 32 ++ w3 ++ w4) ≤ length l) (sym (c .before .before .before .before .before .before .before .before .before .before .byte .ensures)) (at-start .pre) in
+    let h = first-room l at (plateWord ++ w2 ++ w3) w4 pre in
+    let p1 = c .before .before .before .before .before .before .before .before .before .before .before .before .before .before .«put-bytes» in
+    let p2 = c .before .before .before .before .before .before .before .before .before .«put-word» in
+    let p3 = c .before .before .before .before .«put-word2» in
+    next-room l at (plateWord ++ w2 ++ w3) w4 pre (p3 .last .0) (p3 .result)
+    (three-texts l at plateWord w2 w3 h (p1 .last .0) (p1 .result) (p1 .ensures) (p2 .last .0) (p2 .result) (p2 .ensures)
+    (p3 .last .0) (p3 .result) (p3 .ensures))
 
--- src/lib.rt:50:1
 same-length : tie.Need-same-length
 same-length c = search needs
 
--- src/lib.rt:50:1
 returns : tie.Need-returns
 returns c =
-    let at-put-word2 = c .before .before .before .before .before .before in
-    let at-put-word = at-put-word2 .before .before .before .before in
-    let at-put-plate-word = at-put-word .before .before .before .before in
-    let at-start = at-put-plate-word .before .before .before in
-    let a = at-start .args in
-    let p = at-put-plate-word .«put-plate-word» in
-    let q = at-put-word .«put-word» in
-    let s = at-put-word2 .«put-word2» in
-    let t = c .before .before .«put-word3» in (
-      four-texts (a .page .now) 0 plateWord (word (a .kind) 32) (word (a .width) 32) (word (a .height) 10) (p .last .0)
-          (q .last .0) (s .last .0) (t .last .0) (p .result) (q .result) (s .result) (t .result) (p .ensures .0)
-          (q .ensures .0) (s .ensures .0) (t .ensures .0) (omega arith) (omega arith) (omega arith),
-      omega arith,
-    )
+    let at-start = c .before .before .before .before .before .before .before .before .before .before .before .before .before .before .before .before .before .before .before .before .before in
+    let given = at-start .args in
+    let l = given .page .now in
+    let at = given .at in
+    let k = c .before .before .before .before .before .before .before .before .before .before .before .before .before .byte .result in
+    let w2 = word k 32 in
+    let w3 = word (given .head .width) 32 in
+    let w4 = word (given .head .height) 10 in
+    let pre : at + length (plateWord ++ w2 ++ w3 ++ w4) ≤ length l = subst
+        (λ (n : ℕ). at + length (plateWord ++ word n 32 ++ w3 ++ w4) ≤ length l) (sym (c .before .before .before .before .before .before .before .before .before .before .before .before .before .byte .ensures)) (at-start .pre) in
+    let h = first-room l at (plateWord ++ w2 ++ w3) w4 pre in
+    let p1 = c .before .before .before .before .before .before .before .before .before .before .before .before .before .before .before .before .before .«put-bytes» in
+    let p2 = c .before .before .before .before .before .before .before .before .before .before .before .before .«put-word» in
+    let p3 = c .before .before .before .before .before .before .before .«put-word2» in
+    let p4 = c .before .before .«put-word3» in
+    subst (λ (n : ℕ). Puts l at (plateWord ++ word n 32 ++ w3 ++ w4) (p4 .last .0) (p4 .result)) (c .before .before .before .before .before .before .before .before .before .before .before .before .before .byte .ensures)
+    (two-texts l at (plateWord ++ w2 ++ w3) w4 pre (p3 .last .0) (p4 .last .0) (p3 .result) (p4 .result)
+    (three-texts l at plateWord w2 w3 h (p1 .last .0) (p1 .result) (p1 .ensures) (p2 .last .0) (p2 .result) (p2 .ensures)
+    (p3 .last .0) (p3 .result) (p3 .ensures)) (p4 .ensures))
 
 pub put-plate-spec : {M : Type 1} → statement M
 put-plate-spec =
     tie.close
     (tie.spec
-    put-plate-word-requires
+    slice-aggregate-put-bytes
+    put-bytes-requires
+    byte-requires
+    cast-put-word
     put-word-requires
+    cast-put-word-2
     put-word-requires-2
+    cast-put-word-3
     put-word-requires-3
     same-length
     returns)

@@ -1,60 +1,124 @@
--- `put_plunge` writes four numbers, one after another.
+-- `put_plunge` puts four words, one after another.
 use borrow.Author.Needs.{needs}
 use Rattle.text.proofs.put_plunge.Statement.{statement}
 use Rattle.text.proofs.put_plunge.Tie as tie
 use Rattle.text.proofs.put_plunge.Reads as reads
 use Rattle.text.proofs.put_plunge.Lts as lts
-use Rattle.text.proofs.put_word.Reads as put-word-reads
-use native.Mathlib.Omega.{arith}
+use mathlib.Core.List.{_++_}
 use Rattle.text.specs.Text.{word}
-use Rattle.text.proofs.Lines.{four-texts}
+use Rattle.text.proofs.Lines.{first-room, next-room, two-texts, room-1, room-2, room-3, three-texts}
+use Rattle.text.proofs.put_word.Reads as put-word-reads
 
--- src/lib.rt:65:9
+cast-put-word : tie.Need-cast-put-word
+cast-put-word c = search needs
+
 put-word-requires : tie.Need-put-word-requires
-put-word-requires c κs = search needs
+put-word-requires c κs =
+    let at-start = c .before .before .before in
+    let given = at-start .args in
+    let l = given .page .now in
+    let at = given .at in
+    let q = given .q in
+    let w1 = word (q .reach .0) 32 in
+    let w2 = word (q .row) 32 in
+    let w3 = word (q .column) 32 in
+    let w4 = word (q .depth) 10 in
+    let h = first-room l at (w1 ++ w2 ++ w3) w4 (at-start .pre) in
+    room-1 l at w1 w2 w3 h
 
--- src/lib.rt:66:9
+cast-put-word-2 : tie.Need-cast-put-word-2
+cast-put-word-2 c = search needs
+
 put-word-requires-2 : tie.Need-put-word-requires-2
-put-word-requires-2 c κs = search needs
+put-word-requires-2 c κs =
+    let at-start = c .before .before .before .before .before .before .before .before in
+    let given = at-start .args in
+    let l = given .page .now in
+    let at = given .at in
+    let q = given .q in
+    let w1 = word (q .reach .0) 32 in
+    let w2 = word (q .row) 32 in
+    let w3 = word (q .column) 32 in
+    let w4 = word (q .depth) 10 in
+    let h = first-room l at (w1 ++ w2 ++ w3) w4 (at-start .pre) in
+    let p1 = c .before .before .before .before .«put-word» in
+    room-2 l at w1 w2 w3 h (p1 .last .0) (p1 .result) (p1 .ensures)
 
--- src/lib.rt:67:9
+cast-put-word-3 : tie.Need-cast-put-word-3
+cast-put-word-3 c = search needs
+
 put-word-requires-3 : tie.Need-put-word-requires-3
-put-word-requires-3 c κs = search needs
+put-word-requires-3 c κs =
+    let at-start = c .before .before .before .before .before .before .before .before .before .before .before .before .before in
+    let given = at-start .args in
+    let l = given .page .now in
+    let at = given .at in
+    let q = given .q in
+    let w1 = word (q .reach .0) 32 in
+    let w2 = word (q .row) 32 in
+    let w3 = word (q .column) 32 in
+    let w4 = word (q .depth) 10 in
+    let h = first-room l at (w1 ++ w2 ++ w3) w4 (at-start .pre) in
+    let p1 = c .before .before .before .before .before .before .before .before .before .«put-word» in
+    let p2 = c .before .before .before .before .«put-word2» in
+    room-3 l at w1 w2 w3 h (p1 .last .0) (p1 .result) (p1 .ensures) (p2 .last .0) (p2 .result) (p2 .ensures)
 
--- src/lib.rt:68:5
+cast-put-word-4 : tie.Need-cast-put-word-4
+cast-put-word-4 c = search needs
+
 put-word-requires-4 : tie.Need-put-word-requires-4
-put-word-requires-4 c κs = search needs
+put-word-requires-4 c κs =
+    let at-start = c .before .before .before .before .before .before .before .before .before .before .before .before .before .before .before .before .before .before in
+    let given = at-start .args in
+    let l = given .page .now in
+    let at = given .at in
+    let q = given .q in
+    let w1 = word (q .reach .0) 32 in
+    let w2 = word (q .row) 32 in
+    let w3 = word (q .column) 32 in
+    let w4 = word (q .depth) 10 in
+    let h = first-room l at (w1 ++ w2 ++ w3) w4 (at-start .pre) in
+    let p1 = c .before .before .before .before .before .before .before .before .before .before .before .before .before .before .«put-word» in
+    let p2 = c .before .before .before .before .before .before .before .before .before .«put-word2» in
+    let p3 = c .before .before .before .before .«put-word3» in
+    next-room l at (w1 ++ w2 ++ w3) w4 (at-start .pre) (p3 .last .0) (p3 .result)
+    (three-texts l at w1 w2 w3 h (p1 .last .0) (p1 .result) (p1 .ensures) (p2 .last .0) (p2 .result) (p2 .ensures)
+    (p3 .last .0) (p3 .result) (p3 .ensures))
 
--- src/lib.rt:61:1
 same-length : tie.Need-same-length
 same-length c = search needs
 
--- src/lib.rt:61:1
 returns : tie.Need-returns
 returns c =
-    let at-put-word3 = c .before .before .before .before .before .before in
-    let at-put-word2 = at-put-word3 .before .before .before .before in
-    let at-put-word = at-put-word2 .before .before .before .before in
-    let at-start = at-put-word .before .before .before in
-    let a = at-start .args in
-    let p = at-put-word .«put-word» in
-    let q = at-put-word2 .«put-word2» in
-    let s = at-put-word3 .«put-word3» in
-    let t = c .before .before .«put-word4» in (
-      four-texts (a .page .now) (a .at) (word (a .reach) 32) (word (a .row) 32) (word (a .column) 32)
-          (word (a .depth) 10) (p .last .0) (q .last .0) (s .last .0) (t .last .0) (p .result) (q .result) (s .result)
-          (t .result) (p .ensures .0) (q .ensures .0) (s .ensures .0) (t .ensures .0) (omega arith) (omega arith)
-          (omega arith),
-      omega arith,
-    )
+    let at-start = c .before .before .before .before .before .before .before .before .before .before .before .before .before .before .before .before .before .before .before .before .before in
+    let given = at-start .args in
+    let l = given .page .now in
+    let at = given .at in
+    let q = given .q in
+    let w1 = word (q .reach .0) 32 in
+    let w2 = word (q .row) 32 in
+    let w3 = word (q .column) 32 in
+    let w4 = word (q .depth) 10 in
+    let h = first-room l at (w1 ++ w2 ++ w3) w4 (at-start .pre) in
+    let p1 = c .before .before .before .before .before .before .before .before .before .before .before .before .before .before .before .before .before .«put-word» in
+    let p2 = c .before .before .before .before .before .before .before .before .before .before .before .before .«put-word2» in
+    let p3 = c .before .before .before .before .before .before .before .«put-word3» in
+    let p4 = c .before .before .«put-word4» in
+    two-texts l at (w1 ++ w2 ++ w3) w4 (at-start .pre) (p3 .last .0) (p4 .last .0) (p3 .result) (p4 .result)
+    (three-texts l at w1 w2 w3 h (p1 .last .0) (p1 .result) (p1 .ensures) (p2 .last .0) (p2 .result) (p2 .ensures)
+    (p3 .last .0) (p3 .result) (p3 .ensures)) (p4 .ensures)
 
 pub put-plunge-spec : {M : Type 1} → statement M
 put-plunge-spec =
     tie.close
     (tie.spec
+    cast-put-word
     put-word-requires
+    cast-put-word-2
     put-word-requires-2
+    cast-put-word-3
     put-word-requires-3
+    cast-put-word-4
     put-word-requires-4
     same-length
     returns)
