@@ -1,10 +1,9 @@
 -- To be believed: demand 3, the canonical-form theorem's statement: about what the tidying call answers and leaves in its output, by the records that its contract cites.
 use mathlib.Core.Path.{_≡_}
-use mathlib.Core.Bool.{false}
 use mathlib.Core.Logic.{_↔_}
-use mathlib.Core.List.{List, List·Memᴰ}
+use mathlib.Core.List.{List, [], _∷_, List·Memᴰ}
 use Prim.Native.Nat.{ℕ}
-use lib.ListN.{take}
+use lib.ListN.{length, take}
 use Rattle.geometry.specs.declared.Plunge.{Plunge}
 use Rattle.geometry.specs.Plane.{Cell}
 use Rattle.geometry.specs.Plate.{On, at}
@@ -12,13 +11,18 @@ use Rattle.geometry.specs.Plunges.{Inside}
 use Rattle.theory.specs.Listing.{Fits, Maximal, Rising, listing}
 use Rattle.refusal.specs.declared.Verdict.{Verdict}
 use Rattle.refusal.specs.declared.Verdict.the-variants.{Accepted}
-use Rattle.refusal.specs.Refusals.{largestErosion}
+use Rattle.refusal.specs.Refusals.{Trial, firstMet, largestErosion}
 use Rattle.reading.specs.Reading.{IsReadable, headIn, plungesIn}
-use Rattle.listing.specs.declared.Extent.{Extent}
-use Rattle.listing.specs.declared.ListAnswer.the-variants.{Listed}
-use Rattle.jobs.specs.Calls.{relief, TidyCall, CheckCall, workTrial}
+use Rattle.listing.specs.declared.ListAnswer.{ListAnswer}
+use Rattle.listing.specs.declared.ListAnswer.the-variants.{Listed, Unlisted}
+use Rattle.jobs.specs.Calls.{relief, tidiedPlunges, TidyCall, CheckCall, workTrial, roomFor}
 
--- a tidying of f "with buffers long enough": what the call was given and left, and that it gave a list
+-- none of some trials is met
+abbrev pub NoneMet : List Trial → Type 0
+NoneMet ts = firstMet ts ≡ Accepted
+
+-- a tidying of f with buffers long enough: what the call was given, answered and left. A list "is accepted, or readable, when reading refuses
+-- nothing in it; buffers are long enough where neither 4 nor 5 is met"
 pub record Tidying (f : List ℕ) : Type 0 where
   pub out : List ℕ
   pub out′ : List ℕ
@@ -28,12 +32,20 @@ pub record Tidying (f : List ℕ) : Type 0 where
   pub b′ : List ℕ
   pub c : List ℕ
   pub c′ : List ℕ
-  pub extent : Extent
-  pub call : TidyCall f out out′ a a′ b b′ c c′ (Listed extent)
+  pub answer : ListAnswer
+  pub call : TidyCall f out out′ a a′ b b′ c c′ answer
+  pub readable : IsReadable f
+  pub works : NoneMet (workTrial f a b c ∷ [])
+  pub room : NoneMet (roomFor (headIn f) (tidiedPlunges f) out)
+
+-- how many bytes a list in an answer has; a refusal has none
+abbrev pub bytesOf : ListAnswer → ℕ
+bytesOf (Listed e) = e .bytes
+bytesOf (Unlisted r) = 0
 
 -- "The tidied list is the bytes of the answer alone, from head to end field"
 abbrev pub file : {f : List ℕ} → Tidying f → List ℕ
-file t = take (t .extent .bytes) (t .out′)
+file t = take (bytesOf (t .answer)) (t .out′)
 
 -- a check of f with work buffers long enough
 pub record Checking (f : List ℕ) : Type 0 where
@@ -45,7 +57,7 @@ pub record Checking (f : List ℕ) : Type 0 where
   pub c′ : List ℕ
   pub answer : Verdict
   pub call : CheckCall f a a′ b b′ c c′ answer
-  pub long : workTrial f a b c .met ≡ false
+  pub works : NoneMet (workTrial f a b c ∷ [])
 
 -- "Plate size is width and height."
 pub record SamePlate (f g : List ℕ) : Type 0 where
@@ -75,9 +87,22 @@ pub record Canonical (f F : List ℕ) : Type 0 where
   pub again : (t : Tidying F) → file t ≡ F
   pub checked : (s : Checking f) → (s .answer ≡ Accepted) ↔ (F ≡ f)
 
+-- an answer with a list: how long it is, and how many plunges it has
+abbrev pub Lists : ListAnswer → List ℕ → Type 0
+Lists r F = r ≡ Listed (record { bytes = length F; plunges = length (plungesIn F) })
+
 -- the whole demand, for two accepted files, each tidied with buffers long enough
 pub record CanonicalForm {f g : List ℕ} (s : Tidying f) (t : Tidying g) : Type 0 where
+  -- both calls answer with a list, and it is the whole of the tidied file
+  pub lists : Lists (s .answer) (file s) × Lists (t .answer) (file t)
   -- 1: the tidied files are equal, in length and in every byte, exactly when f and g have the same kind and plate size and draw the same relief
   pub equal : (file s ≡ file t) ↔ (SamePlate f g × SameRelief f g)
   pub left : Canonical f (file s)
   pub right : Canonical g (file t)
+
+-- the demand speaks of every accepted file: it is tidied in any buffers that are long enough, and there are such buffers; for the check too
+pub record Tidiable (f : List ℕ) : Type 0 where
+  pub within : (out a b c : List ℕ) → NoneMet (workTrial f a b c ∷ []) → NoneMet (roomFor (headIn f) (tidiedPlunges f) out)
+      → (t : Tidying f) × (t .out ≡ out) × (t .a ≡ a) × (t .b ≡ b) × (t .c ≡ c)
+  pub tidying : Tidying f
+  pub checking : Checking f

@@ -3,6 +3,7 @@ use mathlib.Core.List.{List, [], _∷_}
 use Prim.Native.Nat.{ℕ}
 use Rattle.theory.specs.Blocks.{Answers, Block, answers}
 use Rattle.fields.specs.Fields.{encoded}
+use Rattle.jobs.specs.Calls.{tidied}
 
 -- a block's answers, the file of its listing, and the file of its source tidied
 pub record Filed : Type 0 where
@@ -10,10 +11,10 @@ pub record Filed : Type 0 where
   pub listed : List ℕ
   pub tidied : List ℕ
 
--- what the definitions give, with residues 1 to the limit
+-- what the definitions give, with residues 1 to the limit; the source's file is tidied as the call does
 abbrev pub filed : ℕ → Block → Filed
 filed limit b =
-    record { answered = answers limit b; listed = encoded (b .plate) (answers limit b .listed); tidied = encoded (b .plate) (answers limit b .tidied) }
+    record { answered = answers limit b; listed = encoded (b .plate) (answers limit b .listed); tidied = tidied (encoded (b .plate) (b .source)) }
 
 -- the files that document 01 asks for, in the order of the blocks, field by field
 abbrev pub files : List (List ℕ)
