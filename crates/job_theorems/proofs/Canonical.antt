@@ -53,9 +53,6 @@ module _ (f : List ℕ) (s : Tidying f) where
 -- ---- a readable file, its relief and its tidied file
 
 module _ (f : List ℕ) (ok : IsReadable f) where
-  p : Head
-  p = headIn f
-
   sound : Sound f
   sound = readable-sound f ok
 
@@ -139,24 +136,17 @@ module _ (f : List ℕ) (ok : IsReadable f) where
 
 -- ---- two files
 
-head-ext : (p q : Head) → p .kind ≡ q .kind → p .width ≡ q .width → p .height ≡ q .height → p ≡ q
-head-ext p q a b c =
-    ap (λ (k : Kind). record { kind = k; width = p .width; height = p .height }) a
-    ∙ ap (λ (w : ℕ). record { kind = q .kind; width = w; height = p .height }) b
-    ∙ ap (λ (h : ℕ). record { kind = q .kind; width = q .width; height = h }) c
+-- a head is its kind and its plate size
+head-ext : (p q : Head) → SamePlate p q → p ≡ q
+head-ext p q s =
+    ap (λ (k : Kind). record { kind = k; width = p .width; height = p .height }) (s .kinds)
+    ∙ ap (λ (w : ℕ). record { kind = q .kind; width = w; height = p .height }) (s .widths)
+    ∙ ap (λ (h : ℕ). record { kind = q .kind; width = q .width; height = h }) (s .heights)
 
 module _ (f g : List ℕ) (okf : IsReadable f) (okg : IsReadable g) where
   -- one list of plunges for each plate: the tidied files are equal exactly when the plates and the reliefs are
-  tidied-equal : tidied f ≡ tidied g → SamePlate f g × SameRelief f g
-  tidied-equal e = (
-    record {
-      kinds = ap (λ (h : Head). h .kind) heads;
-      widths = ap (λ (h : Head). h .width) heads;
-      heights =
-          ap (λ (h : Head). h .height) heads;
-    },
-    same,
-  )
+  tidied-equal : tidied f ≡ tidied g → SamePlate (headIn f) (headIn g) × SameRelief f g
+  tidied-equal e = (subst (SamePlate (headIn f)) heads (record { kinds = refl; widths = refl; heights = refl }), same)
     where
       parts : (headIn f ≡ headIn g) × (tidiedPlunges f ≡ tidiedPlunges g)
       parts = encoded-injective (headIn f) (headIn g) (tidiedPlunges f) (tidiedPlunges g) e
@@ -170,11 +160,11 @@ module _ (f g : List ℕ) (okf : IsReadable f) (okg : IsReadable g) where
           (parts .1 ∙ sym (ap (λ (h : Head). canonical h largestErosion (plungesIn g)) heads)) c
           ∙ ap (λ (h : Head). at h (drawing h (plungesIn g)) c) heads
 
-  same-tidied : SamePlate f g → SameRelief f g → tidied f ≡ tidied g
+  same-tidied : SamePlate (headIn f) (headIn g) → SameRelief f g → tidied f ≡ tidied g
   same-tidied s r = ap (encoded (headIn f)) lists ∙ ap (λ (h : Head). encoded h (canonical h largestErosion (plungesIn g))) heads
     where
       heads : headIn f ≡ headIn g
-      heads = head-ext (headIn f) (headIn g) (s .kinds) (s .widths) (s .heights)
+      heads = head-ext (headIn f) (headIn g) s
 
       every : (c : Cell) → at (headIn f) (relief f) c ≡ at (headIn f) (drawing (headIn f) (plungesIn g)) c
       every c = go (on-or-off (headIn f) c)

@@ -4,6 +4,7 @@ use mathlib.Core.Logic.{_↔_}
 use mathlib.Core.List.{List, [], _∷_, List·Memᴰ}
 use Prim.Native.Nat.{ℕ}
 use lib.ListN.{length, take}
+use Rattle.geometry.specs.declared.Head.{Head}
 use Rattle.geometry.specs.declared.Plunge.{Plunge}
 use Rattle.geometry.specs.Plane.{Cell}
 use Rattle.geometry.specs.Plate.{On, at}
@@ -59,11 +60,11 @@ pub record Checking (f : List ℕ) : Type 0 where
   pub call : CheckCall f a a′ b b′ c c′ answer
   pub works : NoneMet (workTrial f a b c ∷ [])
 
--- "Plate size is width and height."
-pub record SamePlate (f g : List ℕ) : Type 0 where
-  pub kinds : headIn f .kind ≡ headIn g .kind
-  pub widths : headIn f .width ≡ headIn g .width
-  pub heights : headIn f .height ≡ headIn g .height
+-- the same kind and plate size: "Plate size is width and height."
+pub record SamePlate (p o : Head) : Type 0 where
+  pub kinds : p .kind ≡ o .kind
+  pub widths : p .width ≡ o .width
+  pub heights : p .height ≡ o .height
 
 -- "Two reliefs of one plate size are the same when every cell of the plate has the same depth in both."
 abbrev pub SameRelief : List ℕ → List ℕ → Type 0
@@ -96,7 +97,7 @@ pub record CanonicalForm {f g : List ℕ} (s : Tidying f) (t : Tidying g) : Type
   -- both calls answer with a list, and it is the whole of the tidied file
   pub lists : Lists (s .answer) (file s) × Lists (t .answer) (file t)
   -- 1: the tidied files are equal, in length and in every byte, exactly when f and g have the same kind and plate size and draw the same relief
-  pub equal : (file s ≡ file t) ↔ (SamePlate f g × SameRelief f g)
+  pub equal : (file s ≡ file t) ↔ (SamePlate (headIn f) (headIn g) × SameRelief f g)
   pub left : Canonical f (file s)
   pub right : Canonical g (file t)
 
