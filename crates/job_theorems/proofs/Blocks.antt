@@ -1,21 +1,17 @@
 -- The M blocks of document 01 in one statement, files included: for every limit from 2 on, and so for 120, the definitions give what is asked.
-use mathlib.Core.Path.{_≡_, refl, sym, ap, ap₂, _∙_}
-use mathlib.Core.Logic.{_⊎_, inl, inr, _↔_}
+use mathlib.Core.Path.{_≡_, refl, ap, ap₂, _∙_}
+use mathlib.Core.Logic.{_↔_}
 use mathlib.Core.List.{List, [], _∷_, map}
-use Prim.Native.Nat.{ℕ, _*_, _≤_, min}
+use Prim.Native.Nat.{ℕ, _≤_}
 use native.Mathlib.Omega.{arith}
 use lib.ListN.{length}
 use Rattle.geometry.specs.declared.Head.{Head}
 use Rattle.geometry.specs.declared.Plunge.{Plunge}
 use Rattle.geometry.specs.Plane.{Cell}
 use Rattle.geometry.specs.Plate.{On, at}
-use Rattle.theory.specs.Listing.{listing, drawn, canonical}
+use Rattle.theory.specs.Listing.{listing, canonical}
 use Rattle.theory.specs.Blocks.{Answers, Block, answers, blocks}
-use Rattle.theory.proofs.Blocks.{blocks-hold}
-use Rattle.theory.proofs.Plate.{on-or-off}
-use Rattle.theory.proofs.Erosion.{erosion-zero}
-use Rattle.theory.proofs.Listing.{listing-stops}
-use Rattle.theory.proofs.Drawing.{drawn-listing}
+use Rattle.theory.proofs.Blocks.{blocks-hold, bare-none, none-bare}
 use Rattle.refusal.specs.Refusals.{largestErosion}
 use Rattle.refusal.specs.Sides.{Sides}
 use Rattle.fields.specs.Fields.{encoded}
@@ -53,21 +49,6 @@ files-hold limit h =
     ∙ computed
 
 -- ---- "all 0: none; 13 bytes", on every plate
-
-module _ (p : Head) (limit : ℕ) (m : List ℕ) where
-  -- of a relief that is 0 everywhere nothing is listed
-  pub bare-none : ((c : Cell) → On p c → at p m c ≡ 0) → listing p limit m ≡ []
-  unfolding listing
-  bare-none z = listing-stops p limit m 0 (omega arith) (λ c. erosion-zero p m c ∙ everywhere c (on-or-off p c))
-    where
-      everywhere : (c : Cell) → On p c ⊎ ((l : List ℕ) → at p l c ≡ 0) → at p m c ≡ 0
-      everywhere c (inl o) = z c o
-      everywhere c (inr off) = off m
-
-  -- and of no other
-  pub none-bare : min (p .width) (p .height) ≤ 2 * limit → listing p limit m ≡ [] → (c : Cell) → at p m c ≡ 0
-  unfolding drawn
-  none-bare sides e c = sym (drawn-listing p limit m sides c) ∙ ap (λ (qs : List Plunge). drawn (p .kind) qs c) e
 
 -- the file of a listing has 13 bytes exactly when every cell of the plate has depth 0
 pub bare-file : (p : Head) (m : List ℕ) → Sides p → (length (encoded p (listing p largestErosion m)) ≡ 13) ↔ ((c : Cell) → On p c → at p m c ≡ 0)

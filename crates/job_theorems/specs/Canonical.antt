@@ -1,4 +1,4 @@
--- To be believed: demand 3, the canonical-form theorem's statement: about what the tidying call answers and leaves in its output, by the records that its contract cites.
+-- To be believed: demand 3, the canonical-form theorem's statement, about what the tidying call answers and leaves, by the records that its contract cites.
 use mathlib.Core.Path.{_≡_}
 use mathlib.Core.Logic.{_↔_}
 use mathlib.Core.List.{List, [], _∷_, List·Memᴰ}
@@ -81,10 +81,12 @@ pub record Canonical (f F : List ℕ) : Type 0 where
   pub draws : (c : Cell) → at (headIn F) (relief F) c ≡ at (headIn f) (relief f) c
   -- 4: a plunge stands in it exactly when it fits under that relief and lies inside no other plunge that fits
   pub maximal : (q : Plunge) → List·Memᴰ q (plungesIn F) ↔ Maximal (headIn f) (relief f) q
-  -- 5: whatever plunge fits there, from the original or not, is listed or lies inside a listed one (a listed one lies inside itself); and each of the original fits
+  -- 5: whatever plunge fits there, from the original or not, is listed or lies inside a listed one (a listed one lies inside itself);
+  -- and each of the original fits
   pub covered : (q : Plunge) → Fits (headIn f) (relief f) q → (o : Plunge) × List·Memᴰ o (plungesIn F) × Inside (headIn f .kind) q o
   pub original : (q : Plunge) → List·Memᴰ q (plungesIn f) → Fits (headIn f) (relief f) q
-  -- 6: tidied again with buffers long enough, it comes back equal in length and in every byte; and the tidy check accepts a readable file exactly when tidying returns its bytes
+  -- 6: tidied again with buffers long enough, it comes back equal in length and in every byte;
+  -- and the tidy check accepts a readable file exactly when tidying returns its bytes
   pub again : (t : Tidying F) → file t ≡ F
   pub checked : (s : Checking f) → (s .answer ≡ Accepted) ↔ (F ≡ f)
 
