@@ -51,14 +51,14 @@ abbrev pub listVerdict : List ℕ → ℕ → ℕ → ℕ → List ℕ → List 
 listVerdict m k w h out a b = firstMet (listTrials m k w h a b ++ roomFor (headOf k w h) (listed m k w h) out)
 
 -- a call that answers with a list: the answer, the file's bytes, two work buffers
-pub record Listing (verdict : Verdict) (p : Head) (qs : List Plunge) (out out′ a a′ b b′ : List ℕ) (r : ListAnswer) : Type 0 where
+pub record ListAnswered (verdict : Verdict) (p : Head) (qs : List Plunge) (out out′ a a′ b b′ : List ℕ) (r : ListAnswer) : Type 0 where
   pub answer : r ≡ listAnswer verdict p qs
   pub bytes : out′ ≡ written verdict (encoded p qs) out
   pub first : Worked verdict (area p) a a′
   pub second : Worked verdict (area p) b b′
 
 abbrev pub ListCall : List ℕ → ℕ → ℕ → ℕ → List ℕ → List ℕ → List ℕ → List ℕ → List ℕ → List ℕ → ListAnswer → Type 0
-ListCall m k w h out out′ a a′ b b′ = Listing (listVerdict m k w h out a b) (headOf k w h) (listed m k w h) out out′ a a′ b b′
+ListCall m k w h out out′ a a′ b b′ = ListAnswered (listVerdict m k w h out a b) (headOf k w h) (listed m k w h) out out′ a a′ b b′
 
 -- ---- tidying
 
@@ -76,7 +76,7 @@ abbrev pub tidyVerdict : List ℕ → List ℕ → List ℕ → List ℕ → Lis
 tidyVerdict f out a b c = firstMet (fileTrials f ++ (workTrial f a b c ∷ roomFor (headIn f) (tidiedPlunges f) out))
 
 pub record TidyCall (f out out′ a a′ b b′ c c′ : List ℕ) (r : ListAnswer) : Type 0 where
-  pub list : Listing (tidyVerdict f out a b c) (headIn f) (tidiedPlunges f) out out′ a a′ b b′ r
+  pub list : ListAnswered (tidyVerdict f out a b c) (headIn f) (tidiedPlunges f) out out′ a a′ b b′ r
   pub third : Worked (tidyVerdict f out a b c) (area (headIn f)) c c′
 
 -- ---- the tidy check
