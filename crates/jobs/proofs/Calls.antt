@@ -35,7 +35,7 @@ use Rattle.listing.specs.declared.ListAnswer.{ListAnswer}
 use Rattle.listing.specs.declared.ListAnswer.the-variants.{Unlisted}
 use Rattle.listing.specs.Staging.{ListedInto}
 use Rattle.listing.specs.Answers.{roomTrials, listAnswer}
-use Rattle.jobs.specs.Calls.{relief, plateTrial, drawVerdict, Listing, listed, listVerdict, ListCall, tidiedPlunges, tidied, tidyVerdict, TidyCall, alike, checkVerdict, CheckCall}
+use Rattle.jobs.specs.Calls.{relief, plateTrial, drawVerdict, listed, listTrials, roomFor, listVerdict, ListAnswered, ListCall, tidiedPlunges, tidied, tidyVerdict, TidyCall, alike, checkVerdict, CheckCall}
 use Rattle.jobs.specs.Comparing.{Comparable, Compared}
 use Rattle.reading.specs.Steps.{JobOf}
 use Rattle.listing_plunges.specs.Listable.{Listable}
@@ -89,7 +89,7 @@ room-free n out = go (ltb (length out) n)
     go true = refl
     go false = refl
 
-pub listing-refused : (v : Verdict) (q : Refusal) (p : Head) (qs : List Plunge) (out a b : List ℕ) → v ≡ Refused q → Listing v p qs out out a a b b (Unlisted q)
+pub listing-refused : (v : Verdict) (q : Refusal) (p : Head) (qs : List Plunge) (out a b : List ℕ) → v ≡ Refused q → ListAnswered v p qs out out a a b b (Unlisted q)
 listing-refused v q p qs out a b e =
     record {
       answer = sym (ap (λ (u : Verdict). listAnswer u p qs) e);
@@ -99,10 +99,10 @@ listing-refused v q p qs out a b e =
     }
 
 pub listing-done : (v : Verdict) (p : Head) (qs : List Plunge) (out out′ a a′ b b′ : List ℕ) (r : ListAnswer)
-    → v ≡ firstMet (roomTrials (fileLength p (length qs)) out)
-    → r ≡ listAnswer (firstMet (roomTrials (fileLength p (length qs)) out)) p qs
-    → out′ ≡ written (firstMet (roomTrials (fileLength p (length qs)) out)) (encoded p qs) out → PlateOnly p a a′ → PlateOnly p b b′
-    → Listing v p qs out out′ a a′ b b′ r
+    → v ≡ firstMet (roomFor p qs out)
+    → r ≡ listAnswer (firstMet (roomFor p qs out)) p qs
+    → out′ ≡ written (firstMet (roomFor p qs out)) (encoded p qs) out → PlateOnly p a a′ → PlateOnly p b b′
+    → ListAnswered v p qs out out′ a a′ b b′ r
 listing-done v p qs out out′ a a′ b b′ r e h l x y =
     record {
       answer = h ∙ sym (ap (λ (u : Verdict). listAnswer u p qs) e);
@@ -224,8 +224,8 @@ module _ (f : List ℕ) (j : Job) (w : JobOf f j) where
     tidy-done l out′ a′ b′ c′ r m d x y =
         record {
           list = listing-done v (headIn f) (tidiedPlunges f) out out′ a a′ b b′ r verdict
-              (into .answer ∙ ap (λ (qs : List Plunge). listAnswer (firstMet (roomTrials (fileLength (headIn f) (length qs)) out)) (headIn f) qs) lists)
-              (into .bytes ∙ ap (λ (qs : List Plunge). written (firstMet (roomTrials (fileLength (headIn f) (length qs)) out)) (encoded (headIn f) qs) out)
+              (into .answer ∙ ap (λ (qs : List Plunge). listAnswer (firstMet (roomFor (headIn f) qs out)) (headIn f) qs) lists)
+              (into .bytes ∙ ap (λ (qs : List Plunge). written (firstMet (roomFor (headIn f) qs out)) (encoded (headIn f) qs) out)
               lists) (moved a a′ x) (moved b b′ y);
           third = worked-free v (headIn f) c c′ (ap free verdict ∙ room-free (fileLength (headIn f) (length (tidiedPlunges f))) out)
               (moved c c′ (kept-mapped (j .head) _ c c′ m));
@@ -234,7 +234,7 @@ module _ (f : List ℕ) (j : Job) (w : JobOf f j) where
         v : Verdict
         v = tidyVerdict f out a b c
 
-        verdict : v ≡ firstMet (roomTrials (fileLength (headIn f) (length (tidiedPlunges f))) out)
+        verdict : v ≡ firstMet (roomFor (headIn f) (tidiedPlunges f) out)
         verdict = no-fault f works _ (w .readable) (works-long l)
 
         into : ListedInto (headIn f) c′ out out′ r
@@ -296,21 +296,21 @@ module _ (f : List ℕ) (j : Job) (w : JobOf f j) where
 
 module _ (m : List ℕ) (k w h : ℕ) (out a b : List ℕ) (n : ℕ) (v : Verdict) (e : n ≡ min (min (length m) (length a)) (length b)) (g : v ≡ firstMet
     (mapTrials k w h false (n ∷ []))) where
-  judged : firstMet (mapTrials k w h false (length m ∷ length a ∷ length b ∷ [])) ≡ v
+  judged : firstMet (listTrials m k w h a b) ≡ v
   judged =
       same-verdict k w h false (length m ∷ length a ∷ length b ∷ []) (n ∷ [])
       (shortest-two (h * w) (length m) (length a) (length b ∷ []) ∙ shortest-two (h * w) (min (length m) (length a)) (length b) [] ∙ ap
       (λ (i : ℕ). short w h (i ∷ [])) (sym e))
       ∙ sym g
 
-  verdict : listVerdict m k w h out a b ≡ andThen v (firstMet (roomTrials (fileLength (headOf k w h) (length (listed m k w h))) out))
-  verdict = first-append (mapTrials k w h false (length m ∷ length a ∷ length b ∷ []))
-      (roomTrials (fileLength (headOf k w h) (length (listed m k w h))) out) ∙ ap
-      (λ (u : Verdict). andThen u (firstMet (roomTrials (fileLength (headOf k w h) (length (listed m k w h))) out))) judged
+  verdict : listVerdict m k w h out a b ≡ andThen v (firstMet (roomFor (headOf k w h) (listed m k w h) out))
+  verdict = first-append (listTrials m k w h a b)
+      (roomFor (headOf k w h) (listed m k w h) out) ∙ ap
+      (λ (u : Verdict). andThen u (firstMet (roomFor (headOf k w h) (listed m k w h) out))) judged
 
   pub list-refused : (q : Refusal) → v ≡ Refused q → ListCall m k w h out out a a b b (Unlisted q)
   list-refused q l = listing-refused (listVerdict m k w h out a b) q (headOf k w h) (listed m k w h) out a b
-      (verdict ∙ ap (λ (u : Verdict). andThen u (firstMet (roomTrials (fileLength (headOf k w h) (length (listed m k w h))) out))) l)
+      (verdict ∙ ap (λ (u : Verdict). andThen u (firstMet (roomFor (headOf k w h) (listed m k w h) out))) l)
 
   -- what the listing asks
   pub list-asks : v ≡ Accepted → (p : Head) → p ≡ headOf k w h → Listable p m a b
@@ -329,5 +329,5 @@ module _ (m : List ℕ) (k w h : ℕ) (out a b : List ℕ) (n : ℕ) (v : Verdic
   list-done l p i out′ a′ b′ r d x y =
       let into : ListedInto (headOf k w h) m out out′ r = subst (λ (q : Head). ListedInto q m out out′ r) i d in
       listing-done (listVerdict m k w h out a b) (headOf k w h) (listed m k w h) out out′ a a′ b b′ r
-      (verdict ∙ ap (λ (u : Verdict). andThen u (firstMet (roomTrials (fileLength (headOf k w h) (length (listed m k w h))) out))) l)
+      (verdict ∙ ap (λ (u : Verdict). andThen u (firstMet (roomFor (headOf k w h) (listed m k w h) out))) l)
       (into .answer) (into .bytes) (subst (λ (q : Head). PlateOnly q a a′) i x) (subst (λ (q : Head). PlateOnly q b b′) i y)

@@ -1,5 +1,3 @@
 pub mod Alike
 pub mod Calls
-pub mod Canonical
-pub mod Blocks
 pub mod Checking

@@ -39,20 +39,26 @@ Drawn f out = Answered (drawVerdict f out) (relief f) out
 abbrev pub listed : List ℕ → ℕ → ℕ → ℕ → List Plunge
 listed m k w h = listing (headOf k w h) largestErosion m
 
--- "Arguments are tried in the order 1, 2, 3; … then 4, … 5."
+-- "Arguments are tried in the order 1, 2, 3; … then 4"
+abbrev pub listTrials : List ℕ → ℕ → ℕ → ℕ → List ℕ → List ℕ → List Trial
+listTrials m k w h a b = mapTrials k w h false (length m ∷ length a ∷ length b ∷ [])
+
+-- "5: output buffer shorter than the answer", of a list under a head
+abbrev pub roomFor : Head → List Plunge → List ℕ → List Trial
+roomFor p qs = roomTrials (fileLength p (length qs))
+
 abbrev pub listVerdict : List ℕ → ℕ → ℕ → ℕ → List ℕ → List ℕ → List ℕ → Verdict
-listVerdict m k w h out a b =
-    firstMet (mapTrials k w h false (length m ∷ length a ∷ length b ∷ []) ++ roomTrials (fileLength (headOf k w h) (length (listed m k w h))) out)
+listVerdict m k w h out a b = firstMet (listTrials m k w h a b ++ roomFor (headOf k w h) (listed m k w h) out)
 
 -- a call that answers with a list: the answer, the file's bytes, two work buffers
-pub record Listing (verdict : Verdict) (p : Head) (qs : List Plunge) (out out′ a a′ b b′ : List ℕ) (r : ListAnswer) : Type 0 where
+pub record ListAnswered (verdict : Verdict) (p : Head) (qs : List Plunge) (out out′ a a′ b b′ : List ℕ) (r : ListAnswer) : Type 0 where
   pub answer : r ≡ listAnswer verdict p qs
   pub bytes : out′ ≡ written verdict (encoded p qs) out
   pub first : Worked verdict (area p) a a′
   pub second : Worked verdict (area p) b b′
 
 abbrev pub ListCall : List ℕ → ℕ → ℕ → ℕ → List ℕ → List ℕ → List ℕ → List ℕ → List ℕ → List ℕ → ListAnswer → Type 0
-ListCall m k w h out out′ a a′ b b′ = Listing (listVerdict m k w h out a b) (headOf k w h) (listed m k w h) out out′ a a′ b b′
+ListCall m k w h out out′ a a′ b b′ = ListAnswered (listVerdict m k w h out a b) (headOf k w h) (listed m k w h) out out′ a a′ b b′
 
 -- ---- tidying
 
@@ -67,10 +73,10 @@ abbrev pub workTrial : List ℕ → List ℕ → List ℕ → List ℕ → Trial
 workTrial f a b c = plateTrial f (length a ∷ length b ∷ length c ∷ [])
 
 abbrev pub tidyVerdict : List ℕ → List ℕ → List ℕ → List ℕ → List ℕ → Verdict
-tidyVerdict f out a b c = firstMet (fileTrials f ++ (workTrial f a b c ∷ roomTrials (fileLength (headIn f) (length (tidiedPlunges f))) out))
+tidyVerdict f out a b c = firstMet (fileTrials f ++ (workTrial f a b c ∷ roomFor (headIn f) (tidiedPlunges f) out))
 
 pub record TidyCall (f out out′ a a′ b b′ c c′ : List ℕ) (r : ListAnswer) : Type 0 where
-  pub list : Listing (tidyVerdict f out a b c) (headIn f) (tidiedPlunges f) out out′ a a′ b b′ r
+  pub list : ListAnswered (tidyVerdict f out a b c) (headIn f) (tidiedPlunges f) out out′ a a′ b b′ r
   pub third : Worked (tidyVerdict f out a b c) (area (headIn f)) c c′
 
 -- ---- the tidy check

@@ -1,4 +1,2 @@
 pub mod Calls
-pub mod Canonical
-pub mod Blocks
 pub mod Comparing

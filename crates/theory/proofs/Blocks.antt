@@ -1,19 +1,25 @@
 -- The M blocks of document 01, in one statement: for every limit from 2 on, and so for 120, the definitions give what is asked.
--- The answers at limit 2 are computed (Answers); that nothing is listed after an empty erosion carries them on.
-use mathlib.Core.Path.{_≡_, refl, _∙_}
+-- The answers at limit 2 are computed (Answers); that nothing is listed after an empty erosion carries them on. And 'all 0: none' as a law.
+use mathlib.Core.Path.{_≡_, refl, sym, ap, _∙_}
+use mathlib.Core.Logic.{_⊎_, inl, inr}
 use mathlib.Core.List.{List, [], _∷_, map}
 use Prim.Native.Nat.{ℕ, _*_, _≤_, min}
 use native.Mathlib.Omega.{arith}
-use Rattle.geometry.specs.Plate.{tabulated}
+use Rattle.geometry.specs.declared.Head.{Head}
+use Rattle.geometry.specs.declared.Plunge.{Plunge}
+use Rattle.geometry.specs.Plane.{Cell}
+use Rattle.geometry.specs.Plate.{On, at, tabulated}
 use Rattle.theory.specs.Erosion.{largestResidue, residueSum}
 use Rattle.theory.specs.Levels.{clearance, axis, reconstructed}
-use Rattle.theory.specs.Listing.{drawing}
+use Rattle.theory.specs.Listing.{listing, drawn, drawing}
 use Rattle.theory.specs.Blocks.{Block, answers, blocks}
 use Rattle.theory.proofs.Lists.{All}
 use Rattle.theory.proofs.Answers.{computed}
-use Rattle.theory.proofs.Plate.{tabulated-same}
+use Rattle.theory.proofs.Plate.{on-or-off, tabulated-same}
 use Rattle.theory.proofs.Residues.{largestResidue-limit, residueSum-limit}
-use Rattle.theory.proofs.Listing.{listing-limit}
+use Rattle.theory.proofs.Listing.{listing-stops, listing-limit}
+use Rattle.theory.proofs.Erosion.{erosion-zero}
+use Rattle.theory.proofs.Drawing.{drawn-listing}
 
 -- a block that two erosions empty
 abbrev Small : Block → Type 0
@@ -44,3 +50,20 @@ small = omega arith
 
 pub blocks-hold : (limit : ℕ) → 2 ≤ limit → map (answers limit) blocks ≡ map (λ b. b .asked) blocks
 blocks-hold limit h = all-limit limit h blocks small ∙ computed
+
+-- ---- "all 0: none", on every plate
+
+module _ (p : Head) (limit : ℕ) (m : List ℕ) where
+  -- of a relief that is 0 everywhere nothing is listed
+  pub bare-none : ((c : Cell) → On p c → at p m c ≡ 0) → listing p limit m ≡ []
+  unfolding listing
+  bare-none z = listing-stops p limit m 0 (omega arith) (λ c. erosion-zero p m c ∙ everywhere c (on-or-off p c))
+    where
+      everywhere : (c : Cell) → On p c ⊎ ((l : List ℕ) → at p l c ≡ 0) → at p m c ≡ 0
+      everywhere c (inl o) = z c o
+      everywhere c (inr off) = off m
+
+  -- and of no other
+  pub none-bare : min (p .width) (p .height) ≤ 2 * limit → listing p limit m ≡ [] → (c : Cell) → at p m c ≡ 0
+  unfolding drawn
+  none-bare sides e c = sym (drawn-listing p limit m sides c) ∙ ap (λ (qs : List Plunge). drawn (p .kind) qs c) e

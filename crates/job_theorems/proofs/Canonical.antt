@@ -1,69 +1,58 @@
 -- Demand 3, whole: the canonical-form theorem, about what the tidying call answers and leaves.
 use mathlib.Core.Path.{_≡_, refl, sym, ap, ap₂, _∙_, subst}
 use mathlib.Core.Logic.{_⊎_, inl, inr, _↔_}
-use mathlib.Core.Bool.{Bool, true, false, cond, not}
+use mathlib.Core.Bool.{Bool, true, false, not}
 use mathlib.Core.List.{List, [], _∷_, List·Memᴰ, List·Memᴰ·head, List·Memᴰ·tail, List·Memᴰ·not-nil}
 use Prim.Native.Nat.{ℕ, _+_, _*_, _≤_, _<_, min}
 use native.Mathlib.Omega.{arith}
-use lib.ListN.{length, take, drop}
-use lib.Seq.{take-at}
+use lib.ListN.{length}
 use Rattle.geometry.specs.declared.Kind.{Kind}
 use Rattle.geometry.specs.declared.Head.{Head}
 use Rattle.geometry.specs.declared.Plunge.{Plunge}
 use Rattle.geometry.specs.Plane.{Cell}
-use Rattle.geometry.specs.Plate.{On, at}
+use Rattle.geometry.specs.Plate.{On, area, at}
 use Rattle.geometry.specs.Plunges.{fitsPlate}
 use Rattle.theory.specs.Listing.{Fits, Maximal, Rising, drawn, drawing, canonical}
 use Rattle.theory.proofs.Lists.{gather-out}
-use Rattle.theory.proofs.Plate.{on-or-off, at-tabulated}
+use Rattle.theory.proofs.Plate.{on-or-off, at-tabulated, length-tabulated}
 use Rattle.theory.proofs.Plunges.{fitsPlate-iff}
-use Rattle.theory.proofs.Listing.{listed-fits, listed-iff-maximal, fits-inside}
+use Rattle.theory.proofs.Listing.{listed-iff-maximal, fits-inside}
 use Rattle.theory.proofs.Order.{listing-rising}
 use Rattle.theory.proofs.Drawing.{le-drawn}
 use Rattle.theory.proofs.Canonical.{canonical-iff, canonical-draws, canonical-twice}
 use Rattle.refusal.specs.declared.Verdict.{Verdict}
-use Rattle.refusal.specs.declared.Verdict.the-variants.{Accepted, Refused}
-use Rattle.refusal.specs.Refusals.{trial, firstMet, largestErosion, written}
-use Rattle.fields.specs.Fields.{encoded, fileLength, place}
-use Rattle.fields.proofs.Encoding.{encoded-injective, encoded-length}
-use Rattle.reading.proofs.Answers.{after-file, file-read}
+use Rattle.refusal.specs.declared.Verdict.the-variants.{Accepted}
+use Rattle.refusal.specs.Refusals.{trial, firstMet, largestErosion, written, Worked}
+use Rattle.fields.specs.Fields.{encoded, place}
+use Rattle.fields.proofs.Encoding.{encoded-injective}
+use Rattle.reading.proofs.Answers.{after-file}
 use Rattle.reading.proofs.Readable.{Sound, readable-sound, Writable, encoded-readable, encoded-head, encoded-plunges}
 use Rattle.reading.specs.Reading.{IsReadable, headIn, plungesIn, plungeAt, total}
-use Rattle.listing.specs.declared.Extent.{Extent}
-use Rattle.listing.specs.declared.ListAnswer.the-variants.{Listed}
 use Rattle.geometry.specs.Lists.{common}
 use Rattle.listing.specs.Answers.{listAnswer}
-use Rattle.jobs.specs.Calls.{relief, tidiedPlunges, tidied, tidyVerdict, alike, checkVerdict}
-use Rattle.jobs.specs.Canonical.{Tidying, file, Checking, SamePlate, SameRelief, Canonical, CanonicalForm}
+use Rattle.jobs.specs.Calls.{relief, tidiedPlunges, tidied, workTrial, roomFor, tidyVerdict, alike, checkVerdict}
+use Rattle.job_theorems.specs.Canonical.{NoneMet, Tidying, file, Checking, SamePlate, SameRelief, Canonical, Lists, CanonicalForm, Tidiable}
 use Rattle.jobs.proofs.Alike.{refused-not, alike-same, alike-equal}
-use Rattle.listing_plunges.proofs.Plunges.{listing-few}
+use Rattle.jobs.proofs.Calls.{worked-none}
+use Rattle.job_theorems.proofs.Answers.{after, tidy-accepts, given-file, given-lists, listing-writable, long-works, exact-room}
 
 -- ---- what the tidying call gave
 
--- an answer with a list comes from an accepted call, and says how long it is
-given : (v : Verdict) (p : Head) (qs : List Plunge) (e : Extent) → Listed e ≡ listAnswer v p qs → (v ≡ Accepted) × (e .bytes ≡ fileLength p (length qs))
-given Accepted p qs e h = (refl, cc)
-given (Refused r) p qs e h = let z : _≡_ {A = ℕ} 0 1 = cc in absurd (omega arith)
-
 module _ (f : List ℕ) (s : Tidying f) where
-  was : (tidyVerdict f (s .out) (s .a) (s .b) (s .c) ≡ Accepted) × (s .extent .bytes ≡ fileLength (headIn f) (length (tidiedPlunges f)))
-  was = given (tidyVerdict f (s .out) (s .a) (s .b) (s .c)) (headIn f) (tidiedPlunges f) (s .extent) (s .call .list .answer)
-
-  pub tidying-readable : IsReadable f
-  tidying-readable = file-read f _ (was .0)
+  -- with buffers long enough nothing is refused
+  accepts : tidyVerdict f (s .out) (s .a) (s .b) (s .c) ≡ Accepted
+  accepts = tidy-accepts f (s .out) (s .a) (s .b) (s .c) (s .readable) (s .works) (s .room)
 
   -- the bytes of the answer alone are the tidied file
   pub file-is : file s ≡ tidied f
-  file-is =
-      ap (λ l. take (s .extent .bytes) l) (s .call .list .bytes ∙ ap (λ v. written v (tidied f) (s .out)) (was .0))
-      ∙ take-at (tidied f) (drop (length (tidied f)) (s .out)) (s .extent .bytes) (encoded-length (headIn f) (tidiedPlunges f) ∙ sym (was .1))
+  file-is = given-file (headIn f) (tidiedPlunges f) (s .out) (s .out′) (s .answer) _ accepts (s .call .list .answer) (s .call .list .bytes)
+
+  pub tidying-lists : Lists (s .answer) (file s)
+  tidying-lists = given-lists (headIn f) (tidiedPlunges f) (s .out) (s .out′) (s .answer) _ accepts (s .call .list .answer) (s .call .list .bytes)
 
 -- ---- a readable file, its relief and its tidied file
 
 module _ (f : List ℕ) (ok : IsReadable f) where
-  p : Head
-  p = headIn f
-
   sound : Sound f
   sound = readable-sound f ok
 
@@ -71,12 +60,7 @@ module _ (f : List ℕ) (ok : IsReadable f) where
   sides = omega (arith, sound .sides .narrow)
 
   good : Writable (headIn f) (tidiedPlunges f)
-  good =
-      record {
-        sides = sound .sides;
-        few = listing-few (headIn f) (relief f) (sound .sides);
-        right = λ q i. let h = listed-fits (headIn f) largestErosion (relief f) q i in (fitsPlate-iff (headIn f) q .1 (h .wholly), h .some);
-      }
+  good = listing-writable (headIn f) (relief f) (sound .sides)
 
   head-same : headIn (tidied f) ≡ headIn f
   head-same = encoded-head (headIn f) (tidiedPlunges f)
@@ -126,7 +110,8 @@ module _ (f : List ℕ) (ok : IsReadable f) where
       last b = firstMet (trial (not b) 12 (common f (tidied f)) ∷ [])
 
       verdict : checkVerdict f (s .a) (s .b) (s .c) ≡ last (alike f (tidied f))
-      verdict = after-file f _ ok ∙ ap (λ (b : Bool). cond b (Refused (record { number = 4; place = 0 })) (last (alike f (tidied f)))) (s .long)
+      verdict = after-file f _ ok ∙ after (workTrial f (s .a) (s .b) (s .c) ∷ [])
+          (trial (not (alike f (tidied f))) 12 (common f (tidied f)) ∷ []) (s .works)
 
       back : (b : Bool) → last b ≡ Accepted → b ≡ true
       back true e = refl
@@ -151,24 +136,17 @@ module _ (f : List ℕ) (ok : IsReadable f) where
 
 -- ---- two files
 
-head-ext : (p q : Head) → p .kind ≡ q .kind → p .width ≡ q .width → p .height ≡ q .height → p ≡ q
-head-ext p q a b c =
-    ap (λ (k : Kind). record { kind = k; width = p .width; height = p .height }) a
-    ∙ ap (λ (w : ℕ). record { kind = q .kind; width = w; height = p .height }) b
-    ∙ ap (λ (h : ℕ). record { kind = q .kind; width = q .width; height = h }) c
+-- a head is its kind and its plate size
+head-ext : (p q : Head) → SamePlate p q → p ≡ q
+head-ext p q s =
+    ap (λ (k : Kind). record { kind = k; width = p .width; height = p .height }) (s .kinds)
+    ∙ ap (λ (w : ℕ). record { kind = q .kind; width = w; height = p .height }) (s .widths)
+    ∙ ap (λ (h : ℕ). record { kind = q .kind; width = q .width; height = h }) (s .heights)
 
 module _ (f g : List ℕ) (okf : IsReadable f) (okg : IsReadable g) where
   -- one list of plunges for each plate: the tidied files are equal exactly when the plates and the reliefs are
-  tidied-equal : tidied f ≡ tidied g → SamePlate f g × SameRelief f g
-  tidied-equal e = (
-    record {
-      kinds = ap (λ (h : Head). h .kind) heads;
-      widths = ap (λ (h : Head). h .width) heads;
-      heights =
-          ap (λ (h : Head). h .height) heads;
-    },
-    same,
-  )
+  tidied-equal : tidied f ≡ tidied g → SamePlate (headIn f) (headIn g) × SameRelief f g
+  tidied-equal e = (subst (SamePlate (headIn f)) heads (record { kinds = refl; widths = refl; heights = refl }), same)
     where
       parts : (headIn f ≡ headIn g) × (tidiedPlunges f ≡ tidiedPlunges g)
       parts = encoded-injective (headIn f) (headIn g) (tidiedPlunges f) (tidiedPlunges g) e
@@ -182,11 +160,11 @@ module _ (f g : List ℕ) (okf : IsReadable f) (okg : IsReadable g) where
           (parts .1 ∙ sym (ap (λ (h : Head). canonical h largestErosion (plungesIn g)) heads)) c
           ∙ ap (λ (h : Head). at h (drawing h (plungesIn g)) c) heads
 
-  same-tidied : SamePlate f g → SameRelief f g → tidied f ≡ tidied g
+  same-tidied : SamePlate (headIn f) (headIn g) → SameRelief f g → tidied f ≡ tidied g
   same-tidied s r = ap (encoded (headIn f)) lists ∙ ap (λ (h : Head). encoded h (canonical h largestErosion (plungesIn g))) heads
     where
       heads : headIn f ≡ headIn g
-      heads = head-ext (headIn f) (headIn g) (s .kinds) (s .widths) (s .heights)
+      heads = head-ext (headIn f) (headIn g) s
 
       every : (c : Cell) → at (headIn f) (relief f) c ≡ at (headIn f) (drawing (headIn f) (plungesIn g)) c
       every c = go (on-or-off (headIn f) c)
@@ -202,6 +180,7 @@ module _ (f g : List ℕ) (okf : IsReadable f) (okg : IsReadable g) where
 pub canonical-form : {f g : List ℕ} (s : Tidying f) (t : Tidying g) → CanonicalForm s t
 canonical-form {f} {g} s t =
     record {
+      lists = (tidying-lists f s, tidying-lists g t);
       equal = (
         (λ e. tidied-equal f g okf okg (sym (file-is f s) ∙ e ∙ file-is g t)),
         λ h. file-is f s ∙ same-tidied f g okf okg (h .0) (h .1) ∙ sym (file-is g t),
@@ -211,7 +190,56 @@ canonical-form {f} {g} s t =
     }
   where
     okf : IsReadable f
-    okf = tidying-readable f s
+    okf = s .readable
 
     okg : IsReadable g
-    okg = tidying-readable g t
+    okg = t .readable
+
+-- nor is the demand empty: every readable file has its tidying, and its check
+pub tidiable : (f : List ℕ) → IsReadable f → Tidiable f
+tidiable f ok = record {
+  within = λ out a b c works room. (tidying-in out a b c works room, refl, refl, refl, refl);
+  tidying = tidying-in (tidied f) (relief f) (relief f) (relief f) works (exact-room (headIn f) (tidiedPlunges f));
+  checking = record {
+    a = relief f;
+    a′ = relief f;
+    b = relief f;
+    b′ = relief f;
+    c = relief f;
+    c′ = relief f;
+    answer = checkVerdict f (relief f) (relief f) (relief f);
+    call = record { answer = refl; first = kept-work; second = kept-work; third = kept-work };
+    works = works;
+  };
+}
+  where
+    -- what the call leaves: the tidied file, and work buffers as they were
+    tidying-in : (out a b c : List ℕ) → NoneMet (workTrial f a b c ∷ []) → NoneMet (roomFor (headIn f) (tidiedPlunges f) out) → Tidying f
+    tidying-in out a b c works room = record {
+      out = out;
+      out′ = written v (tidied f) out;
+      a = a;
+      a′ = a;
+      b = b;
+      b′ = b;
+      c = c;
+      c′ = c;
+      answer = listAnswer v (headIn f) (tidiedPlunges f);
+      call = record {
+        list = record { answer = refl; bytes = refl; first = worked-none v _ a; second = worked-none v _ b };
+        third = worked-none v _ c;
+      };
+      readable = ok;
+      works = works;
+      room = room;
+    }
+      where
+        v : Verdict
+        v = tidyVerdict f out a b c
+
+    -- a buffer as long as the relief is long enough
+    works : NoneMet (workTrial f (relief f) (relief f) (relief f) ∷ [])
+    works = long-works (headIn f) (length (relief f)) (length-tabulated (headIn f) (drawn (headIn f .kind) (plungesIn f)))
+
+    kept-work : Worked (checkVerdict f (relief f) (relief f) (relief f)) (area (headIn f)) (relief f) (relief f)
+    kept-work = worked-none _ _ _

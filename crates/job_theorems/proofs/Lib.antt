@@ -1,0 +1,4 @@
+pub mod Answers
+pub mod Canonical
+pub mod Restored
+pub mod Blocks
