@@ -1,9 +1,10 @@
--- Cells by their numbers: the neighbours of one cell, a ball about another, the cells of a small plate, and what its map says on it and off it.
+-- Definitions by their values: the neighbours of a cell, a ball, the cells of a small plate, what its map says on it and off it, a common beginning.
 use mathlib.Core.Path.{_≡_, refl}
 use mathlib.Core.List.{[], _∷_, map}
 use lib.IntN.{pos, negsuc}
 use Rattle.geometry.specs.declared.Kind.the-variants.{Diamond, Square}
 use Rattle.geometry.specs.declared.Head.{Head}
+use Rattle.geometry.specs.Lists.{common}
 use Rattle.geometry.specs.Plane.{Cell, cell, neighbours, ball}
 use Rattle.geometry.specs.Plate.{at, cells}
 
@@ -44,3 +45,10 @@ pub off-plate :
     (cell 0 0 ∷ cell 2 0 ∷ cell 0 1 ∷ cell 2 1 ∷ cell 3 0 ∷ cell 0 2 ∷ above ∷ left ∷ [])
     ≡ 1 ∷ 3 ∷ 4 ∷ 6 ∷ 0 ∷ 0 ∷ 0 ∷ 0 ∷ []
 off-plate = refl
+
+-- "the first byte unlike": after two that are alike, and at the end of the shorter list
+pub unlike-third : common (7 ∷ 8 ∷ 9 ∷ []) (7 ∷ 8 ∷ 6 ∷ []) ≡ 2
+unlike-third = refl
+
+pub unlike-end : common (7 ∷ 8 ∷ []) (7 ∷ 8 ∷ 6 ∷ []) ≡ 2
+unlike-end = refl
