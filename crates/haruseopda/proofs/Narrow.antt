@@ -3,7 +3,6 @@
 use mathlib.Core.Path.{_≡_, refl, sym, ap, _∙_, subst}
 use mathlib.Core.Logic.{_⊎_, inl, inr}
 use mathlib.Core.Bool.{Bool, true, false, cond, not}
-use mathlib.Core.List.{List, [], _∷_}
 use Prim.Native.Nat.{ℕ, _*_, _≤_, _<_}
 use native.Mathlib.Omega.{arith}
 use borrow.Author.Tests.{leb-false, le-leb, lt-leb, ne-eqb, not-true}
@@ -14,7 +13,7 @@ use Rattle.refusal.proofs.Refusals.{refused, gives-none, sound}
 use Rattle.clearance_cell.specs.Calls.{wrongCell}
 use Rattle.clearance_cell.proofs.Answers.{Right, right-cell}
 use Rattle.haruseopda.specs.declared.Plate.{Plate}
-use Rattle.haruseopda.specs.Narrow.{narrow, narrowByte, narrowWord, narrowPlate}
+use Rattle.haruseopda.specs.Narrow.{narrow, noByte, narrowByte, noWord, narrowWord, narrowPlate}
 
 -- ---- one argument
 
@@ -22,18 +21,23 @@ use Rattle.haruseopda.specs.Narrow.{narrow, narrowByte, narrowWord, narr
 abbrev Kept : {A : Type 0} → (A → A) → (A → Bool) → A → Type 0
 Kept f wrong a = (f a ≡ a) ⊎ ((wrong a ≡ true) × (wrong (f a) ≡ true))
 
-narrow-cases : (most other n : ℕ) → (narrow most other n ≡ n) ⊎ ((most < n) × (narrow most other n ≡ other))
+-- a number narrowed: it is kept, or it is too large and another stands for it
+abbrev Cases : ℕ → ℕ → ℕ → Type 0
+Cases most other n = (narrow most other n ≡ n) ⊎ ((most < n) × (narrow most other n ≡ other))
+
+narrow-cases : (most other n : ℕ) → Cases most other n
 narrow-cases most other n = go (leb n most) refl
   where
-    go : (b : Bool) → leb n most ≡ b → (narrow most other n ≡ n) ⊎ ((most < n) × (narrow most other n ≡ other))
+    go : (b : Bool) → leb n most ≡ b → Cases most other n
     go true e = inl (rw e)
     go false e = inr (leb-false _ _ e, rw e)
 
--- numbers of which all above most are wrong, and another too
-kept-up-to : (most other : ℕ) (wrong : ℕ → Bool) → wrong other ≡ true → ((n : ℕ) → most < n → wrong n ≡ true) → (n : ℕ) → Kept (narrow most other) wrong n
+-- where all numbers above most are wrong, and so is the other
+kept-up-to : (most other : ℕ) (wrong : ℕ → Bool) → wrong other ≡ true → ((n : ℕ) → most < n → wrong n ≡ true)
+    → (n : ℕ) → Kept (narrow most other) wrong n
 kept-up-to most other wrong e above n = go (narrow-cases most other n)
   where
-    go : (narrow most other n ≡ n) ⊎ ((most < n) × (narrow most other n ≡ other)) → Kept (narrow most other) wrong n
+    go : Cases most other n → Kept (narrow most other) wrong n
     go (inl k) = inl k
     go (inr k) = inr (above n (k .0), ap wrong (k .1) ∙ e)
 
@@ -41,7 +45,7 @@ above-largest : (largest n : ℕ) → largest < n → not (cond (leb 1 n) (leb n
 above-largest largest n l = let one : 1 ≤ n = omega arith in rw (le-leb _ _ one, lt-leb _ _ l)
 
 kind-kept : (k : ℕ) → Kept narrowByte badKind k
-kind-kept = kept-up-to 255 0 badKind refl above
+kind-kept = kept-up-to 255 noByte badKind refl above
   where
     above : (n : ℕ) → 255 < n → badKind n ≡ true
     above n l =
@@ -50,13 +54,13 @@ kind-kept = kept-up-to 255 0 badKind refl above
         rw (ne-eqb _ _ four, ne-eqb _ _ eight)
 
 side-kept : (n : ℕ) → Kept narrowWord (λ n. not (isSide n)) n
-side-kept = kept-up-to 65535 65535 (λ n. not (isSide n)) refl (λ n l. above-largest largestSide n (omega arith))
+side-kept = kept-up-to 65535 noWord (λ n. not (isSide n)) refl (λ n l. above-largest largestSide n (omega arith))
 
 pub level-kept : (t : ℕ) → Kept narrowByte (λ t. not (isLevel t)) t
-level-kept = kept-up-to 255 0 (λ t. not (isLevel t)) refl (above-largest largestLevel)
+level-kept = kept-up-to 255 noByte (λ t. not (isLevel t)) refl (above-largest largestLevel)
 
 pub number-kept : (n : ℕ) → Kept narrowWord (λ n. not (isErosionNumber n)) n
-number-kept = kept-up-to 65535 65535 (λ n. not (isErosionNumber n)) refl (λ n l. above-largest largestErosion n (omega arith))
+number-kept = kept-up-to 65535 noWord (λ n. not (isErosionNumber n)) refl (λ n l. above-largest largestErosion n (omega arith))
 
 -- a level, a column and a row
 pub record Place : Type 0 where
@@ -72,7 +76,7 @@ wrongPlace w h c = wrongCell (c .level) (c .column) (c .row) w h
 
 pub place-kept : (w h : ℕ) → w ≤ largestSide → h ≤ largestSide → (c : Place) → Kept narrowPlace (wrongPlace w h) c
 place-kept w h wide low c =
-    go (narrow-cases 255 0 (c .level)) (narrow-cases 65535 65535 (c .column)) (narrow-cases 65535 65535 (c .row))
+    go (narrow-cases 255 noByte (c .level)) (narrow-cases 65535 noWord (c .column)) (narrow-cases 65535 noWord (c .row))
   where
     wrong : (d : Place) → (Right (d .level) (d .column) (d .row) w h → ⊥) → wrongPlace w h d ≡ true
     wrong d never = at (wrongPlace w h d) refl
@@ -85,10 +89,7 @@ place-kept w h wide low c =
         → (Right (narrowByte (c .level)) (narrowWord (c .column)) (narrowWord (c .row)) w h → ⊥) → Kept narrowPlace (wrongPlace w h) c
     both before after = inr (wrong c before, wrong (narrowPlace c) after)
 
-    Cases : ℕ → ℕ → ℕ → Type 0
-    Cases most other n = (narrow most other n ≡ n) ⊎ ((most < n) × (narrow most other n ≡ other))
-
-    go : Cases 255 0 (c .level) → Cases 65535 65535 (c .column) → Cases 65535 65535 (c .row) → Kept narrowPlace (wrongPlace w h) c
+    go : Cases 255 noByte (c .level) → Cases 65535 noWord (c .column) → Cases 65535 noWord (c .row) → Kept narrowPlace (wrongPlace w h) c
     go (inl t) (inl x) (inl y) = inl (rw (t, x, y))
     go (inr t) x y = both (λ r. omega (arith, t .0, r .byte)) (λ r. omega (arith, t .1, r .level))
     go (inl t) (inr x) y = both (λ r. omega (arith, x .0, r .left, wide)) (λ r. omega (arith, x .1, r .left, wide))
@@ -151,8 +152,8 @@ module _ {A X : Type 0} (f : A → A) (wrong : ℕ → ℕ → A → Bool) (rest
     by-sides : badKind k ≡ false → (b : Bool) → badSides w h ≡ b → Promise k (narrowWord w) (narrowWord h) (f a) → Promise k w h a
     by-sides e true g q =
         let i = sides-alike w h ∙ g in
-        both-refused 2 refl (verdict k (narrowWord w) (narrowWord h) (f a)) (verdict k w h a) (value k (narrowWord w) (narrowWord h) (f a)) (value k w h a)
-        (rw (e, i)) (rw (e, g)) q
+        both-refused 2 refl (verdict k (narrowWord w) (narrowWord h) (f a)) (verdict k w h a)
+        (value k (narrowWord w) (narrowWord h) (f a)) (value k w h a) (rw (e, i)) (rw (e, g)) q
     by-sides e false g q =
         let s = sides-low w h g in
         by-third e g (kept (s .0) (s .1))

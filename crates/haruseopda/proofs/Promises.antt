@@ -131,12 +131,14 @@ module _ (k w h : ℕ) (p : Plate) (e : p ≡ narrowPlate k w h) where
     pub list-promise : (r : ListAnswer) → ListCall m (p .kind) (p .width) (p .height) out out′ a a′ b b′ r → ListCall m k w h out out′ a a′ b b′ r
     list-promise r =
         narrowed {A = ℕ} {X = Head × List Plunge} nothing (λ w h n. false)
-        (λ k w h n. firstMet (trial (short w h (length m ∷ length a ∷ length b ∷ [])) 4 0 ∷ roomTrials (fileLength (headOf k w h) (length (listed m k w h))) out))
+        (λ k w h n. firstMet (trial (short w h (length m ∷ length a ∷ length b ∷ [])) 4 0
+        ∷ roomTrials (fileLength (headOf k w h) (length (listed m k w h))) out))
         (λ k w h n. (headOf k w h, listed m k w h)) (λ v x. Listing v (x .0) (x .1) out out′ a a′ b b′ r)
         (listing-silent out out′ a a′ b b′ r) k w h 0 (λ l o. inl refl) p e 0 refl
 
 -- the volume takes no kind: 4 is one
-pub volume-promise : (m : List ℕ) (w h w′ h′ : ℕ) (r : VolumeAnswer) → w′ ≡ narrowWord w → h′ ≡ narrowWord h → r ≡ volumeOf m w′ h′ → r ≡ volumeOf m w h
+pub volume-promise : (m : List ℕ) (w h w′ h′ : ℕ) (r : VolumeAnswer) → w′ ≡ narrowWord w → h′ ≡ narrowWord h
+    → r ≡ volumeOf m w′ h′ → r ≡ volumeOf m w h
 volume-promise m w h w′ h′ r f g =
     let p : Plate = record { kind = 4; width = w′; height = h′ } in
     narrowed {A = ℕ} {X = ℕ} nothing (λ w h n. false) (tooShort (length m ∷ [])) (λ k w h n. volume (headOf 4 w h) m)

@@ -213,7 +213,8 @@ pub extern "C" fn haru_rung_map(
     a: &mut [u8],
     b: &mut [u8],
 ) -> HaruAnswer
-    ensures { λ r. ⌜ Told (ErosionMap (now (relief .entry)) kind width height number (now (out .entry)) (now (out .exit)) (now (a .entry)) (now (a .exit)) (now (b .entry)) (now (b .exit))) r ⌝ }
+    ensures { λ r. ⌜ Told (ErosionMap (now (relief .entry)) kind width height number (now (out .entry)) (now (out .exit))
+        (now (a .entry)) (now (a .exit)) (now (b .entry)) (now (b .exit))) r ⌝ }
 {
     let plate = narrow_plate(kind, width, height);
     of_verdict(erosion_maps::erosion_map(
@@ -240,7 +241,8 @@ pub extern "C" fn haru_residue_map(
     a: &mut [u8],
     b: &mut [u8],
 ) -> HaruAnswer
-    ensures { λ r. ⌜ Told (ResidueMap (now (relief .entry)) kind width height number (now (out .entry)) (now (out .exit)) (now (a .entry)) (now (a .exit)) (now (b .entry)) (now (b .exit))) r ⌝ }
+    ensures { λ r. ⌜ Told (ResidueMap (now (relief .entry)) kind width height number (now (out .entry)) (now (out .exit))
+        (now (a .entry)) (now (a .exit)) (now (b .entry)) (now (b .exit))) r ⌝ }
 {
     let plate = narrow_plate(kind, width, height);
     of_verdict(erosion_maps::residue_map(
@@ -266,7 +268,8 @@ pub extern "C" fn haru_largest_residue_map(
     a: &mut [u8],
     b: &mut [u8],
 ) -> HaruAnswer
-    ensures { λ r. ⌜ Told (ScoreMap Largest (now (relief .entry)) kind width height (now (out .entry)) (now (out .exit)) (now (a .entry)) (now (a .exit)) (now (b .entry)) (now (b .exit))) r ⌝ }
+    ensures { λ r. ⌜ Told (ScoreMap Largest (now (relief .entry)) kind width height (now (out .entry)) (now (out .exit))
+        (now (a .entry)) (now (a .exit)) (now (b .entry)) (now (b .exit))) r ⌝ }
 {
     let plate = narrow_plate(kind, width, height);
     of_verdict(erosion_maps::score_map(
@@ -292,7 +295,8 @@ pub extern "C" fn haru_residue_sum_map(
     a: &mut [u8],
     b: &mut [u8],
 ) -> HaruAnswer
-    ensures { λ r. ⌜ Told (ScoreMap Sum (now (relief .entry)) kind width height (now (out .entry)) (now (out .exit)) (now (a .entry)) (now (a .exit)) (now (b .entry)) (now (b .exit))) r ⌝ }
+    ensures { λ r. ⌜ Told (ScoreMap Sum (now (relief .entry)) kind width height (now (out .entry)) (now (out .exit))
+        (now (a .entry)) (now (a .exit)) (now (b .entry)) (now (b .exit))) r ⌝ }
 {
     let plate = narrow_plate(kind, width, height);
     of_verdict(erosion_maps::score_map(
@@ -410,7 +414,8 @@ pub extern "C" fn haru_list(
     a: &mut [u8],
     b: &mut [u8],
 ) -> HaruListAnswer
-    ensures { λ r. ⌜ ToldList (ListCall (now (relief .entry)) kind width height (now (out .entry)) (now (out .exit)) (now (a .entry)) (now (a .exit)) (now (b .entry)) (now (b .exit))) r ⌝ }
+    ensures { λ r. ⌜ ToldList (ListCall (now (relief .entry)) kind width height (now (out .entry)) (now (out .exit))
+        (now (a .entry)) (now (a .exit)) (now (b .entry)) (now (b .exit))) r ⌝ }
 {
     let plate = narrow_plate(kind, width, height);
     of_list(jobs::list(relief, plate.kind, plate.width, plate.height, out, a, b))
@@ -425,7 +430,8 @@ pub extern "C" fn haru_tidy(
     b: &mut [u8],
     c: &mut [u8],
 ) -> HaruListAnswer
-    ensures { λ r. ⌜ ToldList (TidyCall (now (file .entry)) (now (out .entry)) (now (out .exit)) (now (a .entry)) (now (a .exit)) (now (b .entry)) (now (b .exit)) (now (c .entry)) (now (c .exit))) r ⌝ }
+    ensures { λ r. ⌜ ToldList (TidyCall (now (file .entry)) (now (out .entry)) (now (out .exit))
+        (now (a .entry)) (now (a .exit)) (now (b .entry)) (now (b .exit)) (now (c .entry)) (now (c .exit))) r ⌝ }
 {
     of_list(jobs::tidy(file, out, a, b, c))
 }
@@ -433,7 +439,8 @@ pub extern "C" fn haru_tidy(
 // Whether a file is its own canonical form.
 #[no_mangle]
 pub extern "C" fn haru_check(file: &[u8], a: &mut [u8], b: &mut [u8], c: &mut [u8]) -> HaruAnswer
-    ensures { λ r. ⌜ Told (CheckCall (now (file .entry)) (now (a .entry)) (now (a .exit)) (now (b .entry)) (now (b .exit)) (now (c .entry)) (now (c .exit))) r ⌝ }
+    ensures { λ r. ⌜ Told (CheckCall (now (file .entry))
+        (now (a .entry)) (now (a .exit)) (now (b .entry)) (now (b .exit)) (now (c .entry)) (now (c .exit))) r ⌝ }
 {
     of_verdict(jobs::check(file, a, b, c))
 }

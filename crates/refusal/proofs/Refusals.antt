@@ -16,7 +16,7 @@ use Rattle.geometry.specs.Forms.{kindOf}
 use Rattle.refusal.specs.declared.Verdict.{Verdict}
 use Rattle.refusal.specs.declared.Verdict.the-variants.{Accepted, Refused}
 use Rattle.refusal.specs.declared.Refusal.{Refusal}
-use Rattle.refusal.specs.Refusals.{trial, firstMet, isSide, largestSide, isErosionNumber, largestErosion, isLevel, isNone, badKind, badSides, short, sideTrials, mapTrials, kindNamed, headOf, written, Answered}
+use Rattle.refusal.specs.Refusals.{trial, firstMet, isSide, largestSide, isErosionNumber, largestErosion, isLevel, largestLevel, isNone, badKind, badSides, short, sideTrials, mapTrials, kindNamed, headOf, written, Answered}
 
 -- two sides of 16 bits have a product that a length can be compared with
 pub area-fits : (w h : ℕ) → w < 65536 → h < 65536 → h * w < 4294967296
@@ -123,13 +123,16 @@ erosion-number-ok n e = one-to largestErosion n (not-false _ e)
 
 -- a level is a byte above 0; a byte is no level only if it is 0
 pub level-ok : (t : ℕ) → not (isLevel t) ≡ false → (1 ≤ t) × (t ≤ 255)
-level-ok t e = one-to 255 t (not-false _ e)
+level-ok t e = let l = one-to largestLevel t (not-false _ e) in (l .0, omega (arith, l .1))
 
 pub byte-level : (t : ℕ) → t ≤ 255 → eqb t 0 ≡ not (isLevel t)
 byte-level t g = go (leb 1 t) refl
   where
-    go : (b : Bool) → leb 1 t ≡ b → eqb t 0 ≡ not (cond b (leb t 255) false)
-    go true e = let n : t ≡ 0 → ⊥ = λ z. omega (arith, leb-true 1 t e) in rw (ne-eqb _ _ n, le-leb _ _ g)
+    go : (b : Bool) → leb 1 t ≡ b → eqb t 0 ≡ not (cond b (leb t largestLevel) false)
+    go true e =
+        let n : t ≡ 0 → ⊥ = λ z. omega (arith, leb-true 1 t e) in
+        let l : t ≤ largestLevel = omega arith in
+        rw (ne-eqb _ _ n, le-leb _ _ l)
     go false e = let z : t ≡ 0 = omega (arith, leb-false 1 t e) in rw (eq-eqb _ _ z)
 
 -- a refused call answers its refusal and leaves its output

@@ -11,7 +11,8 @@ use Rattle.clearance_cell.proofs.is_wrong_cell.Tie as tie
 returns : tie.Need-returns
 returns c =
     let t = c .before .args .level in
-    let none : isLevel t ≡ false = not-true _ (sym (byte-level t (omega arith)) ∙ eq-eqb _ _ (c .if1 .taken)) in
+    let zero : t ≡ 0 = c .if1 .taken in
+    let none : isLevel t ≡ false = not-true _ (sym (byte-level t (omega arith)) ∙ eq-eqb _ _ zero) in
     simp none
 
 -- past the first test a byte is a level
