@@ -8,7 +8,7 @@ import motions
 import peers
 from guard import Blank, Free
 from library import Scale
-from maps import Plate, longer
+from maps import BAD, Plate, longer
 
 
 # ---- what the peers say about a file
@@ -54,12 +54,20 @@ def compare_listing(judge, rng, plate, climb, remains):
     return file
 
 
-def compare_listing_arguments(judge, rng, many):
-    """Faults in the arguments of the listing, two and more at once; 5 comes last."""
-    kinds, sides = (4, 8, 8, 4, 0, 6, 255), (1, 2, 3, 3, 240, 0, 241, 256, 257, 65535)
+def listing_arguments(rng, many):
+    """Kinds and sides: each of the bad ones alone, then any, two and more of them bad at once."""
+    yield from ((kind, 3, 3) for kind in BAD["kind"])
+    yield from ((8, width, 3) for width in BAD["width"])
+    yield from ((4, 3, height) for height in BAD["height"])
+    kinds, sides = (4, 8, 8, 4, 0, 6, 255, 260), (1, 2, 3, 3, 240, 0, 241, 256, 257, 65535, 65539)
     for _ in range(many):
-        kind, width, height = int(rng.choice(kinds)), int(rng.choice(sides)), int(rng.choice(sides))
-        cells = width * height if width <= 240 and height <= 240 else 9
+        yield int(rng.choice(kinds)), int(rng.choice(sides)), int(rng.choice(sides))
+
+
+def compare_listing_arguments(judge, rng, many):
+    """Faults in the arguments of the listing; 5 comes last."""
+    for kind, width, height in listing_arguments(rng, many):
+        cells = width * height if 0 <= width <= 240 and 0 <= height <= 240 else 9
         lengths = [max(0, cells + int(rng.choice([0, 0, 0, -1, 1, -cells]))) for _ in range(3)]
         relief = rng.integers(0, 3, lengths[0]).astype(np.uint8).tobytes()
         file = b""

@@ -1,6 +1,6 @@
 """The C interface, include/haruseopda.h, for ctypes."""
 import ctypes
-from ctypes import c_double, c_size_t, c_uint8, c_uint16, c_uint32, c_void_p
+from ctypes import c_double, c_size_t, c_uint32, c_void_p
 
 
 class Answer(ctypes.Structure):
@@ -26,16 +26,16 @@ class MotionsAnswer(ctypes.Structure):
 
 
 BUFFER = [c_void_p, c_size_t]
-PLATE = [c_uint16, c_uint16]
-RELIEF = BUFFER + [c_uint8] + PLATE     # relief, its length, kind, width, height
+PLATE = [c_uint32, c_uint32]
+RELIEF = BUFFER + [c_uint32] + PLATE    # relief, its length, kind, width, height
 
 MAP_CALLS = {
-    "haru_clearance": (Answer, RELIEF + [c_uint8, c_uint16, c_uint16]),
-    "haru_clearance_map": (Answer, RELIEF + [c_uint8] + BUFFER),
-    "haru_axis_map": (Answer, RELIEF + [c_uint8] + BUFFER),
+    "haru_clearance": (Answer, RELIEF + [c_uint32, c_uint32, c_uint32]),
+    "haru_clearance_map": (Answer, RELIEF + [c_uint32] + BUFFER),
+    "haru_axis_map": (Answer, RELIEF + [c_uint32] + BUFFER),
     "haru_reconstruct": (Answer, RELIEF + BUFFER),
-    "haru_rung_map": (Answer, RELIEF + [c_uint16] + 3 * BUFFER),
-    "haru_residue_map": (Answer, RELIEF + [c_uint16] + 3 * BUFFER),
+    "haru_rung_map": (Answer, RELIEF + [c_uint32] + 3 * BUFFER),
+    "haru_residue_map": (Answer, RELIEF + [c_uint32] + 3 * BUFFER),
     "haru_largest_residue_map": (Answer, RELIEF + 3 * BUFFER),
     "haru_residue_sum_map": (Answer, RELIEF + 3 * BUFFER),
     "haru_volume": (Answer, BUFFER + PLATE),

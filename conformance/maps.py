@@ -132,13 +132,20 @@ ARGUMENTS = {
     "haru_residue_sum_map": ("relief_len", "kind", "width", "height", "out_len", "a_len", "b_len"),
     "haru_volume": ("relief_len", "width", "height"),
 }
-BAD_SIDES = (0, 241, 242, 255, 256, 257, 496, 32768, 65535)
+
+
+def wrapped(*accepted):
+    """Numbers of 32 bits that would be accepted if they were cut to 8, 16 or 31 bits; and -1, as a C int has it."""
+    return tuple(more + number for number in accepted for more in (1 << 8, 1 << 16, 1 << 31, 0xFFFF_FF00, 0xFFFF_0000)) + (-1,)
+
+
+BAD_SIDES = (0, 241, 242, 255, 256, 257, 496, 32768, 65535) + wrapped(3, 240)
 BAD = {
-    "kind": (0, 1, 3, 5, 6, 7, 9, 12, 132, 136, 255),
+    "kind": (0, 1, 3, 5, 6, 7, 9, 12, 132, 136, 255) + wrapped(4, 8),
     "width": BAD_SIDES,
     "height": BAD_SIDES,
-    "level": (0,),
-    "number": (0, 121, 122, 255, 256, 257, 376, 65535),
+    "level": (0, 256) + wrapped(1, 255),
+    "number": (0, 121, 122, 255, 256, 257, 376, 65535) + wrapped(1, 120),
 }
 PLATES = ((3, 3), (1, 1), (5, 2), (1, 240), (240, 240))
 
@@ -155,7 +162,7 @@ def bad_values(key, width, height):
         return sorted({0, width * height // 2, width * height - 1})
     if key in ("column", "row"):
         side = width if key == "column" else height
-        return sorted({side, side + 1, 240, 255, 256, 65535} - set(range(side)))
+        return sorted({side, side + 1, 240, 255, 256, 65535, *wrapped(0, side - 1)} - set(range(side)))
     return BAD[key]
 
 
@@ -166,9 +173,9 @@ def refusal(values):
         return 1
     if not (1 <= width <= 240 and 1 <= height <= 240):
         return 2
-    if values.get("level", 1) == 0 or not 1 <= values.get("number", 1) <= 120:
+    if not 1 <= values.get("level", 1) <= 255 or not 1 <= values.get("number", 1) <= 120:
         return 3
-    if values.get("column", 0) >= width or values.get("row", 0) >= height:
+    if not 0 <= values.get("column", 0) < width or not 0 <= values.get("row", 0) < height:
         return 3
     if any(value < width * height for key, value in values.items() if key.endswith("_len")):
         return 4

@@ -8,7 +8,11 @@
  *   - takes each buffer as a pointer and its length in bytes, and reads and writes nothing outside it. The caller owns all buffers; nothing is kept
  *     after the call returns, nothing is allocated. A pointer may be anything if its length is 0.
  *   - may be given buffers longer than needed: bytes past what it reads or writes are ignored, and stay as they are.
- *   - wants buffers that do not overlap, except that buffers that are only read may be the same. Nothing else is asked of any argument.
+ *   - takes kinds, sides, levels, columns, rows and rung or residue numbers as 32 bits. One that is out of its range gets the refusal of its argument
+ *     and is never cut: kind 260 gets 1 though its low byte is 4, width 65539 gets 2, level 256 gets 3, and so does a column of -1, that is 4294967295.
+ *   - keeps these promises for separate buffers only: a buffer that it may write (an output, or work) must share no byte with any other buffer of the
+ *     same call, as with C's restrict. Nothing checks this. Buffers that are only read may be the same or overlap, in calls of other threads too.
+ *     Nothing else is asked of any argument.
  *   - ends, for every content and length, with number 0 (done) or the first refusal of the table in its order. A refusal leaves every output as it
  *     was; work buffers too, but after 5 and 12 their first width * height bytes hold anything, as they do when the call is done.
  *   - may be made from several threads at once, if they share no buffer that one of them writes. It takes less than 48 KiB of stack (40 measured).
@@ -16,7 +20,7 @@
  * Refusals (place is 0 unless said otherwise), tried in the order 1, 2, 3; the file's 6 to 11, 1 and 2 in reading order; then 4, 13, 14, 12, 5:
  *    1  kind is not 4 or 8 (in a file: at the head field)
  *    2  width or height is not 1 to 240 (in a file: at the head field)
- *    3  level 0; rung or residue number not 1 to 120; single cell off the plate
+ *    3  level not 1 to 255; rung or residue number not 1 to 120; single cell off the plate
  *    4  a relief, map or work buffer is shorter than width * height
  *    5  the output file is shorter than the answer; place is the length needed
  *    6  the file ends inside a field (place: the field's first byte) or without an end field (place: the file's length)
@@ -51,38 +55,38 @@ typedef struct {
 /* ---- maps of one level: refusals 1, 2, 3, 4. No work buffers. */
 
 /* The clearance of one cell, as the value: the distance to the nearest cell that is less deep than level (1 to 255), off-plate cells included. */
-haru_answer haru_clearance(const uint8_t *relief, size_t relief_len, uint8_t kind, uint16_t width, uint16_t height, uint8_t level, uint16_t column,
-                           uint16_t row);
+haru_answer haru_clearance(const uint8_t *relief, size_t relief_len, uint32_t kind, uint32_t width, uint32_t height, uint32_t level, uint32_t column,
+                           uint32_t row);
 
 /* The clearance of each cell, into out. */
-haru_answer haru_clearance_map(const uint8_t *relief, size_t relief_len, uint8_t kind, uint16_t width, uint16_t height, uint8_t level, uint8_t *out,
+haru_answer haru_clearance_map(const uint8_t *relief, size_t relief_len, uint32_t kind, uint32_t width, uint32_t height, uint32_t level, uint8_t *out,
                                size_t out_len);
 
 /* The medial axis, into out: the clearance where no neighbour's is larger, else 0. */
-haru_answer haru_axis_map(const uint8_t *relief, size_t relief_len, uint8_t kind, uint16_t width, uint16_t height, uint8_t level, uint8_t *out,
+haru_answer haru_axis_map(const uint8_t *relief, size_t relief_len, uint32_t kind, uint32_t width, uint32_t height, uint32_t level, uint8_t *out,
                           size_t out_len);
 
 /* Drawing back from any byte map, into out: 1 where some cell's number exceeds the distance to it, else 0. Refusals 1, 2, 4. */
-haru_answer haru_reconstruct(const uint8_t *map, size_t map_len, uint8_t kind, uint16_t width, uint16_t height, uint8_t *out, size_t out_len);
+haru_answer haru_reconstruct(const uint8_t *map, size_t map_len, uint32_t kind, uint32_t width, uint32_t height, uint8_t *out, size_t out_len);
 
 /* ---- maps of all levels: refusals 1, 2, 3 (a number not 1 to 120), 4. Work buffers a and b, each of width * height bytes. */
 
 /* Rung `number`, into out: the lowest depth within that distance (an erosion). */
-haru_answer haru_rung_map(const uint8_t *relief, size_t relief_len, uint8_t kind, uint16_t width, uint16_t height, uint16_t number, uint8_t *out,
+haru_answer haru_rung_map(const uint8_t *relief, size_t relief_len, uint32_t kind, uint32_t width, uint32_t height, uint32_t number, uint8_t *out,
                           size_t out_len, uint8_t *a, size_t a_len, uint8_t *b, size_t b_len);
 
 /* Residue `number`, into out: rung number - 1 less the highest rung `number` among the cell and its neighbours. */
-haru_answer haru_residue_map(const uint8_t *relief, size_t relief_len, uint8_t kind, uint16_t width, uint16_t height, uint16_t number, uint8_t *out,
+haru_answer haru_residue_map(const uint8_t *relief, size_t relief_len, uint32_t kind, uint32_t width, uint32_t height, uint32_t number, uint8_t *out,
                              size_t out_len, uint8_t *a, size_t a_len, uint8_t *b, size_t b_len);
 
 /* Each cell's largest residue, or the sum of its residues 1 to 120, into out. */
-haru_answer haru_largest_residue_map(const uint8_t *relief, size_t relief_len, uint8_t kind, uint16_t width, uint16_t height, uint8_t *out,
+haru_answer haru_largest_residue_map(const uint8_t *relief, size_t relief_len, uint32_t kind, uint32_t width, uint32_t height, uint8_t *out,
                                      size_t out_len, uint8_t *a, size_t a_len, uint8_t *b, size_t b_len);
-haru_answer haru_residue_sum_map(const uint8_t *relief, size_t relief_len, uint8_t kind, uint16_t width, uint16_t height, uint8_t *out, size_t out_len,
+haru_answer haru_residue_sum_map(const uint8_t *relief, size_t relief_len, uint32_t kind, uint32_t width, uint32_t height, uint8_t *out, size_t out_len,
                                  uint8_t *a, size_t a_len, uint8_t *b, size_t b_len);
 
 /* The sum of all depths, as the value. Refusals 2, 4. */
-haru_answer haru_volume(const uint8_t *relief, size_t relief_len, uint16_t width, uint16_t height);
+haru_answer haru_volume(const uint8_t *relief, size_t relief_len, uint32_t width, uint32_t height);
 
 /* ---- job files */
 
@@ -111,7 +115,7 @@ typedef struct {
 } haru_list_answer;
 
 /* Lists a relief as a file into out. Refusals 1, 2, 4, 5. Work buffers a and b, each of width * height bytes. */
-haru_list_answer haru_list(const uint8_t *relief, size_t relief_len, uint8_t kind, uint16_t width, uint16_t height, uint8_t *out, size_t out_len,
+haru_list_answer haru_list(const uint8_t *relief, size_t relief_len, uint32_t kind, uint32_t width, uint32_t height, uint8_t *out, size_t out_len,
                            uint8_t *a, size_t a_len, uint8_t *b, size_t b_len);
 
 /* Tidies a file into out: its canonical form. The file's refusals, 4, 5. Work buffers a, b and c, each of width * height bytes. */

@@ -1,12 +1,10 @@
 -- Laws of the calls: what an accepted call knows of its plate and buffers, and what each answer leaves in the output.
 use mathlib.Core.Path.{_≡_, sym, ap, _∙_, subst}
-use mathlib.Core.Bool.{Bool}
+use mathlib.Core.Bool.{Bool, not}
 use mathlib.Core.List.{List, [], _∷_, _++_}
 use Prim.Native.Nat.{ℕ, _+_, _*_, _-_, _≤_, min}
 use native.Mathlib.Omega.{arith}
-use borrow.Author.Tests.{eqb-false}
 use lib.Arith.{digits-lt}
-use lib.Dec.{eqb}
 use lib.ListN.{length, getD, drop, length-append, length-drop, List·getD-append}
 use lib.Seq.{getD-append-add, getD-drop}
 use Rattle.geometry.specs.declared.Head.{Head}
@@ -16,8 +14,8 @@ use Rattle.theory.proofs.Plate.{length-tabulated, getD-tabulated}
 use Rattle.refusal.specs.declared.Verdict.{Verdict}
 use Rattle.refusal.specs.declared.Verdict.the-variants.{Accepted, Refused}
 use Rattle.refusal.specs.declared.Refusal.{Refusal}
-use Rattle.refusal.specs.Refusals.{trial, firstMet, mapTrials, badKind, badSides, headOf, written, Answered}
-use Rattle.refusal.proofs.Refusals.{Sound, shortest-two, map-sound}
+use Rattle.refusal.specs.Refusals.{trial, firstMet, mapTrials, isLevel, badKind, badSides, headOf, written, Answered}
+use Rattle.refusal.proofs.Refusals.{Sound, shortest-two, map-sound, level-ok}
 use Rattle.buffers.specs.Fill.{Mapped}
 use Rattle.buffers.proofs.Fill.{mapped-bytes}
 use Rattle.distance_transform.specs.Transform.{Plates}
@@ -82,8 +80,8 @@ module _ (k w h : ℕ) (wrong : Bool) (m out : List ℕ) where
     accepted-plates p e = subst (λ (p : Head). Plates p m out) (sym e) plates
 
     -- a level that is not refused is 1 or more
-    pub accepted-level : (t : ℕ) → wrong ≡ eqb t 0 → 1 ≤ t
-    accepted-level t e = let g = eqb-false t 0 (sym e ∙ sound .right) in omega arith
+    pub accepted-level : (t : ℕ) → wrong ≡ not (isLevel t) → 1 ≤ t
+    accepted-level t e = level-ok t (sym e ∙ sound .right) .0
 
     pub answered-accepted : (f : Head → Cell → ℕ) (p : Head) (out′ : List ℕ) → p ≡ headOf k w h → Mapped p (f p) out out′
         → Answered said (tabulated (headOf k w h) (f (headOf k w h))) out out′ Accepted

@@ -1,17 +1,16 @@
 -- To be believed: maps of one level, as calls: what each answers, and what its output holds at exit (document 01, "One level at a time").
-use mathlib.Core.Bool.{false}
+use mathlib.Core.Bool.{false, not}
 use mathlib.Core.List.{List, [], _∷_}
 use Prim.Native.Nat.{ℕ}
-use lib.Dec.{eqb}
 use lib.ListN.{length}
 use Rattle.geometry.specs.Plate.{tabulated}
 use Rattle.theory.specs.Levels.{clearance, axis, reconstructed}
 use Rattle.refusal.specs.declared.Verdict.{Verdict}
-use Rattle.refusal.specs.Refusals.{firstMet, mapTrials, headOf, Answered}
+use Rattle.refusal.specs.Refusals.{firstMet, mapTrials, isLevel, headOf, Answered}
 
--- what a call for a map of one level tries
+-- "3: level 0", where a level is 1 to 255
 abbrev pub levelVerdict : List ℕ → ℕ → ℕ → ℕ → ℕ → List ℕ → Verdict
-levelVerdict m k w h t out = firstMet (mapTrials k w h (eqb t 0) (length m ∷ length out ∷ []))
+levelVerdict m k w h t out = firstMet (mapTrials k w h (not (isLevel t)) (length m ∷ length out ∷ []))
 
 -- drawing back has no number that 3 is about
 abbrev pub reconstructVerdict : List ℕ → ℕ → ℕ → ℕ → List ℕ → Verdict

@@ -1,4 +1,5 @@
--- To be believed: what the C calls hand back: a struct of numbers, tied to the answer that the inner call's contract describes. A refusal's number is 0 where nothing is refused.
+-- To be believed: what the C calls hand back: a struct of numbers, tied to the answer that the inner call's contract describes.
+-- A refusal's number is 0 where nothing is refused.
 use mathlib.Core.Path.{_≡_}
 use Rattle.clearance_cell.specs.declared.CellAnswer.{CellAnswer}
 use Rattle.clearance_cell.specs.declared.CellAnswer.the-variants.{Cleared, NotCleared}

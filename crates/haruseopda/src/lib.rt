@@ -18,6 +18,7 @@ ghost use Rattle.reading.specs.Reading.{read};
 ghost use Rattle.jobs.specs.Calls.{Drawn, ListCall, TidyCall, CheckCall};
 ghost use Rattle.motion.specs.Motions.{motionsIn};
 ghost use Rattle.haruseopda.specs.Told.{ofVerdict, ofCell, ofVolume, Told};
+ghost use Rattle.haruseopda.specs.Narrow.{narrowByte, narrowWord, narrowPlate};
 ghost use Rattle.haruseopda.specs.Jobs.{ofRead, ofList, ToldList, ofMotion, ofThree, ofMotions, scaleOf};
 
 // A refusal's number with its place, or 0 and a value.
@@ -79,140 +80,243 @@ fn of_volume(answer: VolumeAnswer) -> HaruAnswer
     }
 }
 
+// ---- numbers of 32 bits, as the calls inside take them: one that fits is kept, another becomes one that gets the same refusal
+
+// A kind or a level: 0 is neither.
+fn narrow_byte(n: u32) -> u8
+    ensures { λ r. ⌜ r ≡ narrowByte n ⌝ }
+{
+    if n <= 255 { n as u8 } else { 0 }
+}
+
+// A side, a column, a row, the number of an erosion or a residue: 65535 is too large for each.
+fn narrow_word(n: u32) -> u16
+    ensures { λ r. ⌜ r ≡ narrowWord n ⌝ }
+{
+    if n <= 65535 { n as u16 } else { 65535 }
+}
+
+// What a call is told of its plate, refused or not.
+struct Plate {
+    kind: u8,
+    width: u16,
+    height: u16,
+}
+
+fn narrow_plate(kind: u32, width: u32, height: u32) -> Plate
+    ensures { λ r. ⌜ r ≡ narrowPlate kind width height ⌝ }
+{
+    Plate {
+        kind: narrow_byte(kind),
+        width: narrow_word(width),
+        height: narrow_word(height),
+    }
+}
+
 // ---- maps
 
 // The clearance of one cell, as the value.
 #[no_mangle]
 pub extern "C" fn haru_clearance(
     relief: &[u8],
-    kind: u8,
-    width: u16,
-    height: u16,
-    level: u8,
-    column: u16,
-    row: u16,
+    kind: u32,
+    width: u32,
+    height: u32,
+    level: u32,
+    column: u32,
+    row: u32,
 ) -> HaruAnswer
     ensures { λ r. ⌜ r ≡ ofCell (clearanceAnswer (now (relief .entry)) kind width height level column row) ⌝ }
 {
-    of_cell(clearance_cell::clearance_of(relief, kind, width, height, level, column, row))
+    let plate = narrow_plate(kind, width, height);
+    of_cell(clearance_cell::clearance_of(
+        relief,
+        plate.kind,
+        plate.width,
+        plate.height,
+        narrow_byte(level),
+        narrow_word(column),
+        narrow_word(row),
+    ))
 }
 
 // The clearance of each cell at a level, into out.
 #[no_mangle]
 pub extern "C" fn haru_clearance_map(
     relief: &[u8],
-    kind: u8,
-    width: u16,
-    height: u16,
-    level: u8,
+    kind: u32,
+    width: u32,
+    height: u32,
+    level: u32,
     out: &mut [u8],
 ) -> HaruAnswer
     ensures { λ r. ⌜ Told (ClearanceMap (now (relief .entry)) kind width height level (now (out .entry)) (now (out .exit))) r ⌝ }
 {
-    of_verdict(clearance_maps::clearance_map(relief, kind, width, height, level, out))
+    let plate = narrow_plate(kind, width, height);
+    of_verdict(clearance_maps::clearance_map(
+        relief,
+        plate.kind,
+        plate.width,
+        plate.height,
+        narrow_byte(level),
+        out,
+    ))
 }
 
 // The medial axis of a level, into out.
 #[no_mangle]
 pub extern "C" fn haru_axis_map(
     relief: &[u8],
-    kind: u8,
-    width: u16,
-    height: u16,
-    level: u8,
+    kind: u32,
+    width: u32,
+    height: u32,
+    level: u32,
     out: &mut [u8],
 ) -> HaruAnswer
     ensures { λ r. ⌜ Told (AxisMap (now (relief .entry)) kind width height level (now (out .entry)) (now (out .exit))) r ⌝ }
 {
-    of_verdict(clearance_maps::axis_map(relief, kind, width, height, level, out))
+    let plate = narrow_plate(kind, width, height);
+    of_verdict(clearance_maps::axis_map(
+        relief,
+        plate.kind,
+        plate.width,
+        plate.height,
+        narrow_byte(level),
+        out,
+    ))
 }
 
 // Drawing back from any byte map, into out.
 #[no_mangle]
 pub extern "C" fn haru_reconstruct(
     map: &[u8],
-    kind: u8,
-    width: u16,
-    height: u16,
+    kind: u32,
+    width: u32,
+    height: u32,
     out: &mut [u8],
 ) -> HaruAnswer
     ensures { λ r. ⌜ Told (Reconstruction (now (map .entry)) kind width height (now (out .entry)) (now (out .exit))) r ⌝ }
 {
-    of_verdict(clearance_maps::reconstruct(map, kind, width, height, out))
+    let plate = narrow_plate(kind, width, height);
+    of_verdict(clearance_maps::reconstruct(map, plate.kind, plate.width, plate.height, out))
 }
 
 // An erosion of a relief (document 01's rung), into out.
 #[no_mangle]
 pub extern "C" fn haru_rung_map(
     relief: &[u8],
-    kind: u8,
-    width: u16,
-    height: u16,
-    number: u16,
+    kind: u32,
+    width: u32,
+    height: u32,
+    number: u32,
     out: &mut [u8],
     a: &mut [u8],
     b: &mut [u8],
 ) -> HaruAnswer
-    ensures { λ r. ⌜ Told (ErosionMap (now (relief .entry)) kind width height number (now (out .entry)) (now (out .exit)) (now (a .entry)) (now (a .exit)) (now (b .entry)) (now (b .exit))) r ⌝ }
+    ensures { λ r. ⌜ Told (ErosionMap (now (relief .entry)) kind width height number (now (out .entry)) (now (out .exit))
+        (now (a .entry)) (now (a .exit)) (now (b .entry)) (now (b .exit))) r ⌝ }
 {
-    of_verdict(erosion_maps::erosion_map(relief, kind, width, height, number, out, a, b))
+    let plate = narrow_plate(kind, width, height);
+    of_verdict(erosion_maps::erosion_map(
+        relief,
+        plate.kind,
+        plate.width,
+        plate.height,
+        narrow_word(number),
+        out,
+        a,
+        b,
+    ))
 }
 
 // A residue of a relief, into out.
 #[no_mangle]
 pub extern "C" fn haru_residue_map(
     relief: &[u8],
-    kind: u8,
-    width: u16,
-    height: u16,
-    number: u16,
+    kind: u32,
+    width: u32,
+    height: u32,
+    number: u32,
     out: &mut [u8],
     a: &mut [u8],
     b: &mut [u8],
 ) -> HaruAnswer
-    ensures { λ r. ⌜ Told (ResidueMap (now (relief .entry)) kind width height number (now (out .entry)) (now (out .exit)) (now (a .entry)) (now (a .exit)) (now (b .entry)) (now (b .exit))) r ⌝ }
+    ensures { λ r. ⌜ Told (ResidueMap (now (relief .entry)) kind width height number (now (out .entry)) (now (out .exit))
+        (now (a .entry)) (now (a .exit)) (now (b .entry)) (now (b .exit))) r ⌝ }
 {
-    of_verdict(erosion_maps::residue_map(relief, kind, width, height, number, out, a, b))
+    let plate = narrow_plate(kind, width, height);
+    of_verdict(erosion_maps::residue_map(
+        relief,
+        plate.kind,
+        plate.width,
+        plate.height,
+        narrow_word(number),
+        out,
+        a,
+        b,
+    ))
 }
 
 // Each cell's largest residue, into out.
 #[no_mangle]
 pub extern "C" fn haru_largest_residue_map(
     relief: &[u8],
-    kind: u8,
-    width: u16,
-    height: u16,
+    kind: u32,
+    width: u32,
+    height: u32,
     out: &mut [u8],
     a: &mut [u8],
     b: &mut [u8],
 ) -> HaruAnswer
-    ensures { λ r. ⌜ Told (ScoreMap Largest (now (relief .entry)) kind width height (now (out .entry)) (now (out .exit)) (now (a .entry)) (now (a .exit)) (now (b .entry)) (now (b .exit))) r ⌝ }
+    ensures { λ r. ⌜ Told (ScoreMap Largest (now (relief .entry)) kind width height (now (out .entry)) (now (out .exit))
+        (now (a .entry)) (now (a .exit)) (now (b .entry)) (now (b .exit))) r ⌝ }
 {
-    of_verdict(erosion_maps::score_map(Score::Largest, relief, kind, width, height, out, a, b))
+    let plate = narrow_plate(kind, width, height);
+    of_verdict(erosion_maps::score_map(
+        Score::Largest,
+        relief,
+        plate.kind,
+        plate.width,
+        plate.height,
+        out,
+        a,
+        b,
+    ))
 }
 
 // The sum of each cell's residues, into out.
 #[no_mangle]
 pub extern "C" fn haru_residue_sum_map(
     relief: &[u8],
-    kind: u8,
-    width: u16,
-    height: u16,
+    kind: u32,
+    width: u32,
+    height: u32,
     out: &mut [u8],
     a: &mut [u8],
     b: &mut [u8],
 ) -> HaruAnswer
-    ensures { λ r. ⌜ Told (ScoreMap Sum (now (relief .entry)) kind width height (now (out .entry)) (now (out .exit)) (now (a .entry)) (now (a .exit)) (now (b .entry)) (now (b .exit))) r ⌝ }
+    ensures { λ r. ⌜ Told (ScoreMap Sum (now (relief .entry)) kind width height (now (out .entry)) (now (out .exit))
+        (now (a .entry)) (now (a .exit)) (now (b .entry)) (now (b .exit))) r ⌝ }
 {
-    of_verdict(erosion_maps::score_map(Score::Sum, relief, kind, width, height, out, a, b))
+    let plate = narrow_plate(kind, width, height);
+    of_verdict(erosion_maps::score_map(
+        Score::Sum,
+        relief,
+        plate.kind,
+        plate.width,
+        plate.height,
+        out,
+        a,
+        b,
+    ))
 }
 
 // The sum of all depths, as the value.
 #[no_mangle]
-pub extern "C" fn haru_volume(relief: &[u8], width: u16, height: u16) -> HaruAnswer
+pub extern "C" fn haru_volume(relief: &[u8], width: u32, height: u32) -> HaruAnswer
     ensures { λ r. ⌜ r ≡ ofVolume (volumeOf (now (relief .entry)) width height) ⌝ }
 {
-    of_volume(erosion_maps::volume(relief, width, height))
+    of_volume(erosion_maps::volume(relief, narrow_word(width), narrow_word(height)))
 }
 
 // ---- job files
@@ -303,16 +407,18 @@ pub extern "C" fn haru_draw(file: &[u8], out: &mut [u8]) -> HaruAnswer
 #[no_mangle]
 pub extern "C" fn haru_list(
     relief: &[u8],
-    kind: u8,
-    width: u16,
-    height: u16,
+    kind: u32,
+    width: u32,
+    height: u32,
     out: &mut [u8],
     a: &mut [u8],
     b: &mut [u8],
 ) -> HaruListAnswer
-    ensures { λ r. ⌜ ToldList (ListCall (now (relief .entry)) kind width height (now (out .entry)) (now (out .exit)) (now (a .entry)) (now (a .exit)) (now (b .entry)) (now (b .exit))) r ⌝ }
+    ensures { λ r. ⌜ ToldList (ListCall (now (relief .entry)) kind width height (now (out .entry)) (now (out .exit))
+        (now (a .entry)) (now (a .exit)) (now (b .entry)) (now (b .exit))) r ⌝ }
 {
-    of_list(jobs::list(relief, kind, width, height, out, a, b))
+    let plate = narrow_plate(kind, width, height);
+    of_list(jobs::list(relief, plate.kind, plate.width, plate.height, out, a, b))
 }
 
 // The canonical form of a file, into out.
@@ -324,7 +430,8 @@ pub extern "C" fn haru_tidy(
     b: &mut [u8],
     c: &mut [u8],
 ) -> HaruListAnswer
-    ensures { λ r. ⌜ ToldList (TidyCall (now (file .entry)) (now (out .entry)) (now (out .exit)) (now (a .entry)) (now (a .exit)) (now (b .entry)) (now (b .exit)) (now (c .entry)) (now (c .exit))) r ⌝ }
+    ensures { λ r. ⌜ ToldList (TidyCall (now (file .entry)) (now (out .entry)) (now (out .exit))
+        (now (a .entry)) (now (a .exit)) (now (b .entry)) (now (b .exit)) (now (c .entry)) (now (c .exit))) r ⌝ }
 {
     of_list(jobs::tidy(file, out, a, b, c))
 }
@@ -332,7 +439,8 @@ pub extern "C" fn haru_tidy(
 // Whether a file is its own canonical form.
 #[no_mangle]
 pub extern "C" fn haru_check(file: &[u8], a: &mut [u8], b: &mut [u8], c: &mut [u8]) -> HaruAnswer
-    ensures { λ r. ⌜ Told (CheckCall (now (file .entry)) (now (a .entry)) (now (a .exit)) (now (b .entry)) (now (b .exit)) (now (c .entry)) (now (c .exit))) r ⌝ }
+    ensures { λ r. ⌜ Told (CheckCall (now (file .entry))
+        (now (a .entry)) (now (a .exit)) (now (b .entry)) (now (b .exit)) (now (c .entry)) (now (c .exit))) r ⌝ }
 {
     of_verdict(jobs::check(file, a, b, c))
 }

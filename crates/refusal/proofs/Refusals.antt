@@ -5,8 +5,8 @@ use mathlib.Core.List.{List, [], _∷_}
 use Prim.Native.Nat.{ℕ, _*_, _≤_, _<_, min}
 use native.Mathlib.Omega.{arith}
 use native.Mathlib.Nat.{mul-le-mul}
-use borrow.Author.Tests.{ltb-true, ltb-false, lt-ltb, le-ltb, leb-true}
-use lib.Dec.{leb, ltb}
+use borrow.Author.Tests.{ltb-true, ltb-false, lt-ltb, le-ltb, leb-true, leb-false, le-leb, eq-eqb, ne-eqb, not-false}
+use lib.Dec.{leb, ltb, eqb}
 use Rattle.geometry.specs.declared.Kind.{Kind}
 use Rattle.geometry.specs.declared.Head.{Head}
 use Rattle.geometry.specs.declared.MaybeKind.{MaybeKind}
@@ -16,7 +16,7 @@ use Rattle.geometry.specs.Forms.{kindOf}
 use Rattle.refusal.specs.declared.Verdict.{Verdict}
 use Rattle.refusal.specs.declared.Verdict.the-variants.{Accepted, Refused}
 use Rattle.refusal.specs.declared.Refusal.{Refusal}
-use Rattle.refusal.specs.Refusals.{trial, firstMet, isSide, largestSide, isErosionNumber, largestErosion, isNone, badKind, badSides, short, sideTrials, mapTrials, kindNamed, headOf, written, Answered}
+use Rattle.refusal.specs.Refusals.{trial, firstMet, isSide, largestSide, isErosionNumber, largestErosion, isLevel, largestLevel, isNone, badKind, badSides, short, sideTrials, mapTrials, kindNamed, headOf, written, Answered}
 
 -- two sides of 16 bits have a product that a length can be compared with
 pub area-fits : (w h : ℕ) → w < 65536 → h < 65536 → h * w < 4294967296
@@ -80,10 +80,11 @@ pub record Sound (w h : ℕ) (wrong : Bool) (n : ℕ) : Type 0 where
 refused-not : (n : ℕ) → refused n ≡ Accepted → ⊥
 refused-not n e = let z : _≡_ {A = ℕ} 0 1 = cc in omega arith
 
-side-ok : (n : ℕ) → isSide n ≡ true → (1 ≤ n) × (n ≤ largestSide)
-side-ok n = go (leb 1 n) refl
+-- a side, the number of an erosion and a level are each a number from 1 to the largest
+pub one-to : (most n : ℕ) → cond (leb 1 n) (leb n most) false ≡ true → (1 ≤ n) × (n ≤ most)
+one-to most n = go (leb 1 n) refl
   where
-    go : (b : Bool) → leb 1 n ≡ b → cond b (leb n largestSide) false ≡ true → (1 ≤ n) × (n ≤ largestSide)
+    go : (b : Bool) → leb 1 n ≡ b → cond b (leb n most) false ≡ true → (1 ≤ n) × (n ≤ most)
     go true e g = (leb-true _ _ e, leb-true _ _ g)
     go false e g = let z : _≡_ {A = ℕ} 0 1 = cc in absurd (omega arith)
 
@@ -105,8 +106,8 @@ sound w h wrong n = go (badSides w h) wrong (ltb n (h * w)) refl refl refl
     go false false true e g k v = absurd (refused-not 4 v)
     go false false false e g k v =
         let s = sides-ok w h e in
-        let x = side-ok w (s .0) in
-        let y = side-ok h (s .1) in
+        let x = one-to largestSide w (s .0) in
+        let y = one-to largestSide h (s .1) in
         record { wide = x .0; narrow = x .1; tall = y .0; low = y .1; right = g; long = ltb-false _ _ k }
 
 pub map-sound : (k w h : ℕ) (wrong : Bool) (n : ℕ) → firstMet (mapTrials k w h wrong (n ∷ [])) ≡ Accepted → Sound w h wrong n
@@ -118,12 +119,21 @@ map-sound k w h wrong n = go (badKind k)
 
 -- the number of an erosion that was not refused
 pub erosion-number-ok : (n : ℕ) → not (isErosionNumber n) ≡ false → (1 ≤ n) × (n ≤ largestErosion)
-erosion-number-ok n = go (leb 1 n) (leb n largestErosion) refl refl
+erosion-number-ok n e = one-to largestErosion n (not-false _ e)
+
+-- a level is a byte above 0; a byte is no level only if it is 0
+pub level-ok : (t : ℕ) → not (isLevel t) ≡ false → (1 ≤ t) × (t ≤ 255)
+level-ok t e = let l = one-to largestLevel t (not-false _ e) in (l .0, omega (arith, l .1))
+
+pub byte-level : (t : ℕ) → t ≤ 255 → eqb t 0 ≡ not (isLevel t)
+byte-level t g = go (leb 1 t) refl
   where
-    go : (a b : Bool) → leb 1 n ≡ a → leb n largestErosion ≡ b → not (cond a b false) ≡ false → (1 ≤ n) × (n ≤ largestErosion)
-    go true true e g k = (leb-true _ _ e, leb-true _ _ g)
-    go true false e g k = let z : _≡_ {A = ℕ} 0 1 = cc in absurd (omega arith)
-    go false b e g k = let z : _≡_ {A = ℕ} 0 1 = cc in absurd (omega arith)
+    go : (b : Bool) → leb 1 t ≡ b → eqb t 0 ≡ not (cond b (leb t largestLevel) false)
+    go true e =
+        let n : t ≡ 0 → ⊥ = λ z. omega (arith, leb-true 1 t e) in
+        let l : t ≤ largestLevel = omega arith in
+        rw (ne-eqb _ _ n, le-leb _ _ l)
+    go false e = let z : t ≡ 0 = omega (arith, leb-false 1 t e) in rw (eq-eqb _ _ z)
 
 -- a refused call answers its refusal and leaves its output
 pub answered-refused : (v : Verdict) (q : Refusal) (new out : List ℕ) → v ≡ Refused q → Answered v new out out (Refused q)

@@ -44,6 +44,13 @@ largestErosion = 120
 abbrev pub isErosionNumber : ℕ → Bool
 isErosionNumber n = cond (leb 1 n) (leb n largestErosion) false
 
+-- "The shape at level t (1 to 255)"
+abbrev pub largestLevel : ℕ
+largestLevel = 255
+
+abbrev pub isLevel : ℕ → Bool
+isLevel t = cond (leb 1 t) (leb t largestLevel) false
+
 abbrev pub isNone : MaybeKind → Bool
 isNone (OfKind kd) = false
 isNone NoKind = true

@@ -1,8 +1,9 @@
 -- `axis_map` answers as `clearance_map` does, and keeps of its map what no neighbour exceeds.
 use mathlib.Core.Path.{refl, sym, _∙_}
 use native.Mathlib.Omega.{arith}
-use lib.Dec.{eqb}
+use mathlib.Core.Bool.{not}
 use Rattle.theory.specs.Levels.{clearance, axis}
+use Rattle.refusal.specs.Refusals.{isLevel}
 use Rattle.buffers.specs.Fill.{Mapped}
 use Rattle.clearance_maps.proofs.Axis.{axis-mapped}
 use Rattle.clearance_maps.proofs.Calls.{accepted-plates, accepted-level, accepted-mapped, refused-again, answered-accepted}
@@ -21,7 +22,7 @@ mapped c =
     let at-start = at-clearance-map .before .before .before .before in
     let s = at-start .args in
     let g = at-clearance-map .clearance-map .ensures in
-    accepted-mapped (s .kind) (s .width) (s .height) (eqb (s .level) 0) (s .relief .now) (s .out .now)
+    accepted-mapped (s .kind) (s .width) (s .height) (not (isLevel (s .level))) (s .relief .now) (s .out .now)
     (sym (g .answer) ∙ c .before .enum-told .given .1) (λ p. clearance p (s .relief .now) (s .level)) _ _ _
     (c .head-of .ensures) g
 
@@ -40,7 +41,7 @@ filter-map-requires c κs =
     let at-start = at-clearance-map .before .before .before .before in
     let s = at-start .args in
     let g =
-    accepted-plates (s .kind) (s .width) (s .height) (eqb (s .level) 0) (s .relief .now) (s .out .now)
+    accepted-plates (s .kind) (s .width) (s .height) (not (isLevel (s .level))) (s .relief .now) (s .out .now)
     (sym (at-clearance-map .clearance-map .ensures .answer) ∙ c .before .before .enum-told .given .1) _
     (c .before .head-of .ensures) in
     record {
@@ -64,10 +65,10 @@ returns c =
     let at-start = at-clearance-map .before .before .before .before in
     let s = at-start .args in
     let a = sym (at-clearance-map .clearance-map .ensures .answer) ∙ at-enum-told .enum-told .given .1 in
-    answered-accepted (s .kind) (s .width) (s .height) (eqb (s .level) 0) (s .relief .now) (s .out .now) a
+    answered-accepted (s .kind) (s .width) (s .height) (not (isLevel (s .level))) (s .relief .now) (s .out .now) a
     (λ p. axis p (s .relief .now) (s .level)) _ _ (at-head-of .head-of .ensures)
     (axis-mapped _ (s .relief .now) (s .level)
-    (accepted-level (s .kind) (s .width) (s .height) (eqb (s .level) 0) (s .relief .now) (s .out .now) a (s .level) refl)
+    (accepted-level (s .kind) (s .width) (s .height) (not (isLevel (s .level))) (s .relief .now) (s .out .now) a (s .level) refl)
     _ _ _ (mapped (at-head-of)) (c .before .before .filter-map .ensures))
 
 same-length-2 : tie.Need-same-length-2
@@ -78,7 +79,7 @@ returns-2 c =
     let at-clearance-map = c .before .before .before .before .before in
     let at-start = at-clearance-map .before .before .before .before in
     let s = at-start .args in
-    refused-again (s .kind) (s .width) (s .height) (eqb (s .level) 0) (s .relief .now) (s .out .now) _ _ _ _ _
+    refused-again (s .kind) (s .width) (s .height) (not (isLevel (s .level))) (s .relief .now) (s .out .now) _ _ _ _ _
     (at-clearance-map .clearance-map .ensures) (c .before .verdict .given .1)
 
 pub axis-map-spec : {M : Type 1} → statement M

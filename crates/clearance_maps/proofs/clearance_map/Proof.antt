@@ -1,9 +1,14 @@
 -- `clearance_map` answers by the first refusal met, and writes the transform's map if there is none.
-use mathlib.Core.Path.{_≡_, refl, sym, _∙_}
+use mathlib.Core.Path.{_≡_, refl, sym, ap, _∙_}
+use mathlib.Core.Bool.{Bool, not}
+use mathlib.Core.List.{[], _∷_}
+use native.Mathlib.Omega.{arith}
 use borrow.Author.Needs.{needs}
 use lib.Dec.{eqb}
+use lib.ListN.{length}
 use Rattle.theory.specs.Levels.{clearance}
-use Rattle.refusal.proofs.Refusals.{answered-refused}
+use Rattle.refusal.specs.Refusals.{firstMet, mapTrials, isLevel}
+use Rattle.refusal.proofs.Refusals.{answered-refused, byte-level}
 use Rattle.clearance_maps.specs.Calls.{levelVerdict}
 use Rattle.clearance_maps.proofs.Calls.{by-shorter, accepted-plates, accepted-level, answered-accepted}
 use Rattle.clearance_maps.proofs.clearance_map.Statement.{statement}
@@ -17,6 +22,8 @@ said c =
     let s = at-start .args in
     by-shorter (s .kind) (s .width) (s .height) (eqb (s .level) 0) (s .relief .now) (s .out .now) _
     (c .before .smaller .ensures) _ (c .check-map .ensures)
+    ∙ ap (λ (b : Bool). firstMet (mapTrials (s .kind) (s .width) (s .height) b (length (s .relief .now) ∷ length (s .out .now) ∷ [])))
+    (byte-level (s .level) (omega (arith, at-start .fits .level)))
 
 smaller-requires : tie.Need-smaller-requires
 smaller-requires c κs = search needs
@@ -35,9 +42,9 @@ transform-requires c κs =
     let at-start = c .before .before .before .before .before .before .before .before in
     let s = at-start .args in
     let a = sym (said (c .before .before .before .before)) ∙ c .before .before .enum-told .given .1 in (
-      accepted-plates (s .kind) (s .width) (s .height) (eqb (s .level) 0) (s .relief .now) (s .out .now) a _
+      accepted-plates (s .kind) (s .width) (s .height) (not (isLevel (s .level))) (s .relief .now) (s .out .now) a _
           (c .before .head-of .ensures),
-      accepted-level (s .kind) (s .width) (s .height) (eqb (s .level) 0) (s .relief .now) (s .out .now) a (s .level) refl,
+      accepted-level (s .kind) (s .width) (s .height) (not (isLevel (s .level))) (s .relief .now) (s .out .now) a (s .level) refl,
     )
 
 enum-known-verdict : tie.Need-enum-known-verdict
@@ -52,7 +59,7 @@ returns c =
     let at-enum-told = at-head-of .before in
     let at-start = at-enum-told .before .before .before .before .before .before in
     let s = at-start .args in
-    answered-accepted (s .kind) (s .width) (s .height) (eqb (s .level) 0) (s .relief .now) (s .out .now)
+    answered-accepted (s .kind) (s .width) (s .height) (not (isLevel (s .level))) (s .relief .now) (s .out .now)
     (sym (said (at-enum-told .before .before)) ∙ at-enum-told .enum-told .given .1)
     (λ p. clearance p (s .relief .now) (s .level)) _ _ (at-head-of .head-of .ensures)
     (c .before .before .transform .ensures)
