@@ -24,7 +24,7 @@ use Rattle.residue_scores.specs.Scores.{scoreOf}
 use Rattle.fields.specs.Fields.{fileLength}
 use Rattle.listing.specs.declared.ListAnswer.{ListAnswer}
 use Rattle.listing.specs.Answers.{roomTrials}
-use Rattle.jobs.specs.Calls.{Listing, ListCall, listed}
+use Rattle.jobs.specs.Calls.{ListAnswered, ListCall, listed}
 use Rattle.haruseopda.specs.declared.Plate.{Plate}
 use Rattle.haruseopda.specs.Narrow.{narrowByte, narrowWord, narrowPlate}
 use Rattle.haruseopda.proofs.Narrow.{Place, narrowPlace, wrongPlace, level-kept, number-kept, place-kept, narrowed}
@@ -48,7 +48,7 @@ left-silent out out′ a a′ b b′ r n e x y q =
     }
 
 listing-silent : (out out′ a a′ b b′ : List ℕ) (r : ListAnswer) (n : ℕ) → free (refused n) ≡ false → (x y : Head × List Plunge)
-    → Listing (refused n) (x .0) (x .1) out out′ a a′ b b′ r → Listing (refused n) (y .0) (y .1) out out′ a a′ b b′ r
+    → ListAnswered (refused n) (x .0) (x .1) out out′ a a′ b b′ r → ListAnswered (refused n) (y .0) (y .1) out out′ a a′ b b′ r
 listing-silent out out′ a a′ b b′ r n e x y q =
     record {
       answer = q .answer;
