@@ -133,7 +133,7 @@ module _ (k w h : ℕ) (p : Plate) (e : p ≡ narrowPlate k w h) where
         narrowed {A = ℕ} {X = Head × List Plunge} nothing (λ w h n. false)
         (λ k w h n. firstMet (trial (short w h (length m ∷ length a ∷ length b ∷ [])) 4 0
         ∷ roomTrials (fileLength (headOf k w h) (length (listed m k w h))) out))
-        (λ k w h n. (headOf k w h, listed m k w h)) (λ v x. Listing v (x .0) (x .1) out out′ a a′ b b′ r)
+        (λ k w h n. (headOf k w h, listed m k w h)) (λ v x. ListAnswered v (x .0) (x .1) out out′ a a′ b b′ r)
         (listing-silent out out′ a a′ b b′ r) k w h 0 (λ l o. inl refl) p e 0 refl
 
 -- the volume takes no kind: 4 is one
