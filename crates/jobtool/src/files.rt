@@ -2,6 +2,8 @@
 use libc::STDERR_FILENO;
 use libc::STDIN_FILENO;
 use libc::STDOUT_FILENO;
+ghost use Prim.Native.Nat.{_≤_};
+ghost use lib.ListN.{length};
 ghost use Rattle.io.specs.Counts.{Counts};
 
 // How many bytes were read, and whether that is all of the input.
@@ -66,14 +68,32 @@ pub fn read_input(number: usize, buf: &mut [u8]) -> Input
     }
 }
 
+// Bytes at a place of a buffer, as far as there is room; gives the place behind them.
+fn append(buf: &mut [u8], at: usize, bytes: &[u8]) -> usize
+    requires { ⌜ at ≤ length (now buf) ⌝ }
+    ensures { λ r. ⌜ Counts r (now (buf .exit)) ⌝ }
+{
+    let mut end = at;
+    let mut i = 0;
+    while i < bytes.len() {
+        if buf.len() <= end {
+            return end;
+        }
+        buf[end] = bytes[i];
+        end += 1;
+        i += 1;
+    }
+    end
+}
+
 // The name of an argument with ".part" behind it; one that is too long stays too long.
 fn part_name(number: usize, part: &mut [u8]) -> usize
     ensures { λ r. ⌜ Counts r (now (part .exit)) ⌝ }
 {
     let mut name = io::buffer();
     let n = os::arg(number, &mut name);
-    let at = text::put(part, 0, &name[..n]);
-    text::put(part, at, b".part")
+    let at = append(part, 0, &name[..n]);
+    append(part, at, b".part")
 }
 
 // Where an answer goes: a new file beside the one that an argument names, or standard output where there is none. -1 after telling why not.
