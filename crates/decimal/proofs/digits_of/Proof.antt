@@ -6,7 +6,7 @@ use Rattle.decimal.proofs.nearer.Reads as nearer-reads
 use mathlib.Core.Path.{sym, _∙_}
 use Prim.Native.Nat.{_-_, _^_}
 use native.Mathlib.Omega.{arith}
-use Rattle.decimal.proofs.Shortest.{Found, found-none, found-more, found-end, far-low, far-high}
+use Rattle.decimal.proofs.Shortest.{Found, found-none, found-more, found-end, far-low, far-high, digits-same}
 
 abbrev Inv-loop : tie.InvT-loop
 Inv-loop fraction half rest₀ margin₀ number₀ count₀ rest margin number count = Found fraction half rest margin number count
@@ -101,9 +101,11 @@ returns : tie.Need-returns Inv-loop μ-loop
 returns c =
     let at-loop = c .before .before .before in
     let at-start = at-loop .before in
-    found-end (at-start .args .fraction) (at-start .args .half) (at-loop .loop .rest) (at-loop .loop .margin)
+    sym
+    (digits-same (at-start .args .fraction) (at-start .args .half) _
+    (found-end (at-start .args .fraction) (at-start .args .half) (at-loop .loop .rest) (at-loop .loop .margin)
     (at-loop .loop .number) (at-loop .loop .count) (at-loop .loop .inv)
-    (sym (c .before .before .is-far .ensures) ∙ c .before .if1 .left) (c .nearer .result) (c .nearer .ensures)
+    (sym (c .before .before .is-far .ensures) ∙ c .before .if1 .left) (c .nearer .result) (c .nearer .ensures)))
 
 pub digits-of-spec : {M : Type 1} → statement M
 digits-of-spec =

@@ -3,7 +3,7 @@ use borrow.Author.Needs.{needs}
 use Rattle.decimal.proofs.put_hexadecimal.Statement.{statement}
 use Rattle.decimal.proofs.put_hexadecimal.Tie as tie
 use Rattle.decimal.proofs.has_room.Reads as has-room-reads
-use Rattle.decimal.proofs.put_digits.Reads as put-digits-reads
+use Rattle.numerals.proofs.put_digits.Reads as put-digits-reads
 use native.Mathlib.Omega.{arith}
 use lib.ListN.{length, length-set}
 use lib.Dec.{lit≤}
