@@ -2,15 +2,13 @@
 use mathlib.Core.Path.{_≡_, refl, sym, ap, _∙_}
 use mathlib.Core.Bool.{Bool, true, false, cond, true≢false}
 use Prim.Native.Nat.{ℕ, _/_, _%_, _^_, _+_, _≤_, _<_}
-use native.Mathlib.Nat.{mod-lt}
 use native.Mathlib.Omega.{arith}
 use borrow.Author.Tests.{le-leb, lt-leb, leb-true}
-use lib.Dec.{leb, eqb, lit<}
+use lib.Dec.{leb, eqb}
 use lib.ListN.{length}
 use lib.Ieee.{Float, nan, inf, fin, binary64, ne, isNan, toBits, fits}
 use lib.Ieee.Bits.{ofBits-toBits}
 use lib.Ieee.Compare.{differs-from-itself, nan-differs}
-use Rattle.numerals.specs.Numerals.{numeral}
 use Rattle.numerals.proofs.Sizes.{numeral-most}
 use Rattle.decimal.specs.declared.Digits.{Digits}
 use Rattle.decimal.specs.declared.Parts.{Parts}
@@ -19,7 +17,7 @@ use Rattle.decimal.specs.Text.{textOf, hexadecimal, notNumber, inDecimal
 use Rattle.decimal.specs.Shortest.{Shown}
 use Rattle.decimal.specs.Printing.{inFields, bitsText}
 use Rattle.decimal.proofs.Shortest.{proper, digits-shortest, digits-few}
-use Rattle.decimal.proofs.Sizes.{fraction-room, half-pos, fraction-below, whole-below}
+use Rattle.decimal.proofs.Sizes.{fraction-room, half-pos, fraction-below}
 use Rattle.decimal.proofs.Texts.{text-length, tail-most, hexadecimal-length}
 use Rattle.decimal.proofs.Back.{reads-back}
 use Rattle.decimal.proofs.Ranges.{nan-out, range-is}
@@ -102,7 +100,8 @@ shown x f i =
 text-short : (p : Parts) → length (decimalText p) ≤ 40
 text-short p =
     let d = shortestDigits (p .fraction) (p .half) in
-    omega (arith, text-length (p .whole) d, numeral-most (p .whole), tail-most (cond (eqb (d .count) 0) 0 (1 + d .count)) (d .count) refl (digits-few (p .fraction) (p .half)))
+    let t = tail-most (cond (eqb (d .count) 0) 0 (1 + d .count)) (d .count) refl (digits-few (p .fraction) (p .half)) in
+    omega (arith, text-length (p .whole) d, numeral-most (p .whole), t)
 
 pub numberText-short : (x : Float) → length (numberText x) ≤ 40
 unfolding numberText

@@ -14,6 +14,7 @@ use lib.Ieee.Nearest.{closest}
 use Rattle.decimal.specs.declared.Digits.{Digits}
 use Rattle.decimal.specs.Digits.{nearestOf, isNear, digitsFrom, shortestDigits}
 use Rattle.decimal.specs.Shortest.{NearerThanHalf, Shortest}
+use Rattle.decimal.specs.Printing.{isFar}
 
 -- ---- the nearer of two numbers
 
@@ -98,21 +99,14 @@ found-none fraction half h l =
     }
 
 -- what the test says
-pub far-low : (rest margin : ℕ) → cond (leb margin rest) (leb margin (2 ^ 60 - rest)) false ≡ true → margin ≤ rest
-far-low rest margin e = go (leb margin rest) refl e
+pub far-both : (rest margin : ℕ) → isFar rest margin ≡ true → (margin ≤ rest) × (margin ≤ 2 ^ 60 - rest)
+far-both rest margin e = go (leb margin rest) refl e
   where
-    go : (b : Bool) → leb margin rest ≡ b → cond b (leb margin (2 ^ 60 - rest)) false ≡ true → margin ≤ rest
-    go true h e = leb-true margin rest h
-    go false h e = let z : _≡_ {A = ℕ} 0 1 = cc in absurd (omega arith)
+    go : (b : Bool) → leb margin rest ≡ b → cond b (leb margin (2 ^ 60 - rest)) false ≡ true → (margin ≤ rest) × (margin ≤ 2 ^ 60 - rest)
+    go true h e = (leb-true margin rest h, leb-true margin (2 ^ 60 - rest) e)
+    go false h e = absurd (true≢false (sym e))
 
-pub far-high : (rest margin : ℕ) → cond (leb margin rest) (leb margin (2 ^ 60 - rest)) false ≡ true → margin ≤ 2 ^ 60 - rest
-far-high rest margin e = go (leb margin rest) e
-  where
-    go : (b : Bool) → cond b (leb margin (2 ^ 60 - rest)) false ≡ true → margin ≤ 2 ^ 60 - rest
-    go true e = leb-true margin (2 ^ 60 - rest) e
-    go false e = let z : _≡_ {A = ℕ} 0 1 = cc in absurd (omega arith)
-
-near-one : (rest margin : ℕ) → cond (leb margin rest) (leb margin (2 ^ 60 - rest)) false ≡ false → (rest < margin) ⊎ (2 ^ 60 - rest < margin)
+near-one : (rest margin : ℕ) → isFar rest margin ≡ false → (rest < margin) ⊎ (2 ^ 60 - rest < margin)
 near-one rest margin e = go (leb margin rest) refl e
   where
     go : (b : Bool) → leb margin rest ≡ b → cond b (leb margin (2 ^ 60 - rest)) false ≡ false → (rest < margin) ⊎ (2 ^ 60 - rest < margin)
@@ -124,9 +118,11 @@ module _ (fraction half rest margin number count : ℕ) (f : Found fraction half
   too-few : margin ≤ rest → margin ≤ 2 ^ 60 - rest → (n : ℕ) → NearerThanHalf fraction half n count → ⊥
   too-few l h n w = omega (arith, f .exact, f .scaled, f .small, w .0, w .1, add-mul fraction half (10 ^ count))
 
-  pub found-more : margin ≤ rest → margin ≤ 2 ^ 60 - rest
+  pub found-more : isFar rest margin ≡ true
       → Found fraction half (10 * rest % 2 ^ 60) (margin * 10) (10 * number + 10 * rest / 2 ^ 60) (count + 1)
-  found-more l h =
+  found-more t =
+      let l : margin ≤ rest = far-both rest margin t .0 in
+      let h : margin ≤ 2 ^ 60 - rest = far-both rest margin t .1 in
       record {
         exact = rw (add-one count, pow-suc 10 count) (omega (arith, f .exact, div-add-mod' (10 * rest) (2 ^ 60), mul-assoc fraction (10 ^ count) 10));
         scaled = rw (add-one count, pow-suc 10 count) (omega (arith, f .scaled, mul-assoc half (10 ^ count) 10));
@@ -152,7 +148,7 @@ module _ (fraction half rest margin number count : ℕ) (f : Found fraction half
   near-high n e h (inl l) = (omega (arith, f .exact, f .scaled, f .small, add-mul fraction half (10 ^ count)), omega (arith, f .exact, f .scaled, f .small))
   near-high n e h (inr l) = (omega (arith, f .exact, f .scaled, f .small, add-mul fraction half (10 ^ count)), omega (arith, f .exact, f .scaled, f .small))
 
-  pub found-end : cond (leb margin rest) (leb margin (2 ^ 60 - rest)) false ≡ false → (n : ℕ) → n ≡ closest (number * 2 ^ 60 + rest) (2 ^ 60)
+  pub found-end : isFar rest margin ≡ false → (n : ℕ) → n ≡ closest (number * 2 ^ 60 + rest) (2 ^ 60)
       → Shortest fraction half (record { number = n; count = count })
   found-end t n e =
       record {
@@ -166,12 +162,7 @@ module _ (fraction half rest margin number count : ℕ) (f : Found fraction half
         few = few;
       }
 
-  -- by the test alone
-  found-next : cond (leb margin rest) (leb margin (2 ^ 60 - rest)) false ≡ true
-      → Found fraction half (10 * rest % 2 ^ 60) (margin * 10) (10 * number + 10 * rest / 2 ^ 60) (count + 1)
-  found-next t = found-more (far-low rest margin t) (far-high rest margin t)
-
-  found-here : cond (leb margin rest) (leb margin (2 ^ 60 - rest)) false ≡ false → (d : Digits) × Shortest fraction half d
+  found-here : isFar rest margin ≡ false → (d : Digits) × Shortest fraction half d
   found-here t =
       let n = closest (number * 2 ^ 60 + rest) (2 ^ 60) in
       (record { number = n; count = count }, found-end t n refl)
@@ -224,24 +215,24 @@ module _ (fraction half : ℕ) (d : Digits) (s : Shortest fraction half d) where
 -- there are such digits: the loop finds them
 module _ (fraction half : ℕ) where
   find : (more rest margin number count : ℕ) → Found fraction half rest margin number count → 18 ≤ count + more → (d : Digits) × Shortest fraction half d
-  find zero rest margin number count f m = go (cond (leb margin rest) (leb margin (2 ^ 60 - rest)) false) refl
+  find zero rest margin number count f m = go (isFar rest margin) refl
     where
-      go : (b : Bool) → cond (leb margin rest) (leb margin (2 ^ 60 - rest)) false ≡ b → (d : Digits) × Shortest fraction half d
+      go : (b : Bool) → isFar rest margin ≡ b → (d : Digits) × Shortest fraction half d
       go false e = found-here fraction half rest margin number count f e
       go true e = absurd (omega (
         arith,
         few fraction half (10 * rest % 2 ^ 60) (margin * 10) (10 * number + 10 * rest / 2 ^ 60) (count + 1)
-            (found-next fraction half rest margin number count f e),
+            (found-more fraction half rest margin number count f e),
       ))
   find (suc more) rest margin number count f m =
       go (find more (10 * rest % 2 ^ 60) (margin * 10) (10 * number + 10 * rest / 2 ^ 60) (count + 1))
-      (cond (leb margin rest) (leb margin (2 ^ 60 - rest)) false) refl
+      (isFar rest margin) refl
     where
       go : (Found fraction half (10 * rest % 2 ^ 60) (margin * 10) (10 * number + 10 * rest / 2 ^ 60) (count + 1) → 18 ≤ count + 1 + more
           → (d : Digits) × Shortest fraction half d)
-          → (b : Bool) → cond (leb margin rest) (leb margin (2 ^ 60 - rest)) false ≡ b → (d : Digits) × Shortest fraction half d
+          → (b : Bool) → isFar rest margin ≡ b → (d : Digits) × Shortest fraction half d
       go later false e = found-here fraction half rest margin number count f e
-      go later true e = later (found-next fraction half rest margin number count f e) (omega arith)
+      go later true e = later (found-more fraction half rest margin number count f e) (omega arith)
 
   pub digits-shortest : 0 < half → fraction < 2 ^ 60 → Shortest fraction half (shortestDigits fraction half)
   digits-shortest h l =

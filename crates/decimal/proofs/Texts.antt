@@ -106,17 +106,21 @@ tail-most tail count e h = rw e (go (eqb count 0))
 pub tail-some : (tail count : ℕ) → tail ≡ cond (eqb count 0) 0 (1 + count) → (count ≡ 0 → ⊥) → tail ≡ 1 + count
 tail-some tail count e z = rw (ne-eqb count 0 z) at e
 
--- size digits of the whole number, and a tail
-module _ (whole : ℕ) (d : Digits) (old : List ℕ) (at size tail : ℕ) (b : whole < 18446744073709551616) (s : IsSize whole size)
-    (t : tail ≡ cond (eqb (d .count) 0) 0 (1 + d .count)) where
+-- a text of size digits and a tail
+pub record Measured (whole : ℕ) (d : Digits) (size tail : ℕ) : Type 0 where
+  pub bound : whole < 18446744073709551616
+  pub sized : IsSize whole size
+  pub tailed : tail ≡ cond (eqb (d .count) 0) 0 (1 + d .count)
+
+module _ {whole : ℕ} {d : Digits} {size tail : ℕ} (g : Measured whole d size tail) (old : List ℕ) (at : ℕ) where
   whole-digits : numeral whole ≡ digitText 10 size whole
-  whole-digits = numeral-digits whole size b s
+  whole-digits = numeral-digits whole size (g .bound) (g .sized)
 
   whole-length : length (numeral whole) ≡ size
-  whole-length = numeral-length whole size b s
+  whole-length = numeral-length whole size (g .bound) (g .sized)
 
   total : length (textOf whole d) ≡ size + tail
-  total = text-length whole d ∙ ap₂ (λ (j k : ℕ). j + k) whole-length (sym t)
+  total = text-length whole d ∙ ap₂ (λ (j k : ℕ). j + k) whole-length (sym (g .tailed))
 
   pub parts-none : length old < at + (size + tail) → Put (textOf whole d) old old at at
   parts-none h = not-fitting (textOf whole d) old at (size + tail) total h
@@ -136,7 +140,7 @@ module _ (whole : ℕ) (d : Digits) (old : List ℕ) (at size tail : ℕ) (b : w
       e
       ∙ ap (λ (l : List ℕ). spliced (set l (at + size) 46) (at + size + 1) (digitText 10 (d .count) (d .number))) (m ∙ ap (spliced old at) (sym whole-digits))
       ∙ ap (λ (k : ℕ). spliced (set (spliced old at (numeral whole)) (at + k) 46) (at + k + 1) (digitText 10 (d .count) (d .number))) (sym whole-length)
-      ∙ pointed-text old at whole d z (omega (arith, tail-some tail (d .count) t z, whole-length))
+      ∙ pointed-text old at whole d z (omega (arith, tail-some tail (d .count) (g .tailed) z, whole-length))
 
   pub parts-both : (new : List ℕ) → at + (size + tail) ≤ length old → new ≡ spliced old at (textOf whole d)
       → Put (textOf whole d) old new at (at + (size + tail))

@@ -1,9 +1,13 @@
--- Serves proofs: the text of a float by its bits.
+-- Serves proofs: how the digits of a fraction are found, and the text of a float by its bits.
 use mathlib.Core.Bool.{Bool, false, cond}
 use mathlib.Core.List.{List}
-use Prim.Native.Nat.{ℕ, _/_, _^_}
+use Prim.Native.Nat.{ℕ, _-_, _/_, _^_}
 use lib.Dec.{leb}
 use Rattle.decimal.specs.Text.{decimalText, hexadecimal, partsIn}
+
+-- no number of so many digits is within the margin, where rest of 2^60 is left over
+abbrev pub isFar : ℕ → ℕ → Bool
+isFar rest margin = cond (leb margin rest) (leb margin (2 ^ 60 - rest)) false
 
 -- the exponent fields of the floats from 2^-6 to below 2^20
 abbrev pub inFields : ℕ → Bool

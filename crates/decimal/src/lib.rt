@@ -1,7 +1,7 @@
 // Decimal text as the nearest float, and a float as the shortest decimal text.
 ghost use mathlib.Core.Path.{_≡_};
-ghost use mathlib.Core.Bool.{false, cond};
-ghost use Prim.Native.Nat.{_+_, _-_, _*_, _^_, _≤_, _<_};
+ghost use mathlib.Core.Bool.{cond};
+ghost use Prim.Native.Nat.{_+_, _*_, _^_, _≤_, _<_};
 ghost use lib.Dec.{eqb, leb};
 ghost use lib.Ieee.{binary64, round};
 ghost use lib.Ieee.Nearest.{closest};
@@ -9,7 +9,7 @@ ghost use Rattle.decimal.specs.Decimal.{isDigit, decimalOf, unsignedOf};
 ghost use Rattle.decimal.specs.Scan.{Bounded, begun, spoiled, pointed, withDigit, scannedByte, scanned};
 ghost use Rattle.decimal.specs.Digits.{partsOf, shortestDigits};
 ghost use Rattle.decimal.specs.Text.{Put, textOf, hexadecimal, notNumber, numberText};
-ghost use Rattle.decimal.specs.Printing.{bitsText};
+ghost use Rattle.decimal.specs.Printing.{isFar, bitsText};
 
 // What a text is: the nearest float, no number, or a number of more than 15 digits.
 pub enum Decimal {
@@ -218,7 +218,7 @@ fn parts_of(field: u64, below: u64) -> Parts
 // Whether no number of so many digits is within the margin.
 fn is_far(rest: u64, margin: u64) -> bool
     requires { ⌜ rest < 2 ^ 60 ⌝ }
-    ensures { λ r. ⌜ r ≡ cond (leb margin rest) (leb margin (2 ^ 60 - rest)) false ⌝ }
+    ensures { λ r. ⌜ r ≡ isFar rest margin ⌝ }
 {
     if margin <= rest {
         margin <= ONE - rest
