@@ -9,8 +9,9 @@ use lib.Dec.{eqb, leb, lit<, lit≤}
 use lib.Pow.{pow-add, pow-pos, pow-mono}
 use lib.Ieee.{binary64, odd, round, ofFields, ofBits}
 use Rattle.decimal.specs.declared.Digits.{Digits}
-use Rattle.decimal.specs.Digits.{sizeIn, partsOf, Shortest}
+use Rattle.decimal.specs.Digits.{sizeIn, partsOf}
 use Rattle.decimal.specs.Text.{partsIn}
+use Rattle.decimal.specs.Shortest.{Shortest}
 use Rattle.decimal.proofs.Scans.{ten-pos}
 use Rattle.decimal.proofs.Sizes.{scale-is}
 use Rattle.decimal.proofs.Nearest.{round-at, units-odd, odd-same, odd-double}

@@ -8,14 +8,20 @@ use native.Mathlib.Omega.{arith}
 use borrow.Author.Tests.{le-leb, le-ltb, lt-ltb, eqb-true, ne-eqb}
 use lib.Dec.{eqb, lit<}
 use lib.ListN.{length, getD, length-append}
-use lib.Ieee.{Float, binary64, round}
+use lib.Ieee.{Float, binary64, round, toBits, fits}
+use Rattle.numerals.specs.Numerals.{digitByte, digitText, numeral}
+use Rattle.numerals.specs.Sizes.{IsSize}
+use Rattle.numerals.proofs.Digits.{digits-length}
+use Rattle.numerals.proofs.Sizes.{size-exists, numeral-digits, numeral-length}
 use Rattle.decimal.specs.declared.Decimal.the-variants.{Number}
 use Rattle.decimal.specs.declared.Digits.{Digits}
 use Rattle.decimal.specs.declared.Parts.{Parts}
-use Rattle.decimal.specs.Decimal.{isDigit, areDigits, valueAfter, wholePart, fractionPart, unsignedOf, decimalOf}
-use Rattle.decimal.specs.Text.{digitByte, digitText, textOf, Shown}
+use Rattle.decimal.specs.Decimal.{isDigit, areDigits, valueAfter, wholePart, fractionPart, digitsIn, unsignedOf, decimalOf}
+use Rattle.decimal.specs.Text.{textOf, inDecimalRange, partsIn, numberText}
+use Rattle.decimal.specs.Shortest.{Shown}
 use Rattle.decimal.proofs.Scans.{digit-least, digit-no-point}
-use Rattle.decimal.proofs.Texts.{digits-length}
+use Rattle.decimal.proofs.Sizes.{whole-below}
+use Rattle.decimal.proofs.Floats.{range-fields, shown}
 
 -- ---- digits
 
@@ -83,44 +89,64 @@ no-sign [] ys e h = absurd (omega arith)
 no-sign (b ∷ xs) ys e h = ne-eqb b 45 (λ z. omega (arith, z, digit-least b (digit-first b xs e)))
 
 -- a text of a whole number and a fraction
-read-parts : (t xs ys : List ℕ) → areDigits xs ≡ true → areDigits ys ≡ true → wholePart t ≡ xs → fractionPart t ≡ ys
-    → 0 < length xs → length xs + length ys ≤ 15 → unsignedOf false t ≡ Number (round binary64 false (valueAfter 0 (xs ++ ys)) (10 ^ length ys))
+read-parts : (t xs ys : List ℕ) → areDigits xs ≡ true → areDigits ys ≡ true → wholePart t ≡ xs → fractionPart t ≡ ys → 0 < length xs
+    → length (digitsIn t) ≤ 15 → unsignedOf false t ≡ Number (round binary64 false (valueAfter 0 (xs ++ ys)) (10 ^ length ys))
 unfolding unsignedOf
 read-parts t xs ys e f p q h l =
+    let m : length (xs ++ ys) ≤ 15 = rw (p, q) at l in
     rw (p, q, digits-join xs ys e f)
-    (rw (
-      ne-eqb (length (xs ++ ys)) 0 (λ z. omega (arith, z, length-append xs ys)),
-      le-ltb 15 (length (xs ++ ys)) (omega (arith, length-append xs ys)),
-    ))
+    (rw (ne-eqb (length (xs ++ ys)) 0 (λ z. omega (arith, z, length-append xs ys)), le-ltb 15 (length (xs ++ ys)) m))
 
-text-parts : (size whole : ℕ) (d : Digits) → (wholePart (textOf size whole d) ≡ digitText 10 size whole)
-    × (fractionPart (textOf size whole d) ≡ digitText 10 (d .count) (d .number))
-text-parts size whole d = go (eqb (d .count) 0) refl
+text-parts : (whole : ℕ) (d : Digits) → areDigits (numeral whole) ≡ true → (wholePart (textOf whole d) ≡ numeral whole)
+    × (fractionPart (textOf whole d) ≡ digitText 10 (d .count) (d .number))
+text-parts whole d a = go (eqb (d .count) 0) refl
   where
     go : (b : Bool) → eqb (d .count) 0 ≡ b
-        → (wholePart (digitText 10 size whole ++ cond b [] (46 ∷ digitText 10 (d .count) (d .number))) ≡ digitText 10 size whole)
-        × (fractionPart (digitText 10 size whole ++ cond b [] (46 ∷ digitText 10 (d .count) (d .number))) ≡ digitText 10 (d .count) (d .number))
+        → (wholePart (numeral whole ++ cond b [] (46 ∷ digitText 10 (d .count) (d .number))) ≡ numeral whole)
+        × (fractionPart (numeral whole ++ cond b [] (46 ∷ digitText 10 (d .count) (d .number))) ≡ digitText 10 (d .count) (d .number))
     go false e = (
-      whole-first (digitText 10 size whole) (digitText 10 (d .count) (d .number)) (text-digits size whole),
-      fraction-last (digitText 10 size whole) (digitText 10 (d .count) (d .number)) (text-digits size whole),
+      whole-first (numeral whole) (digitText 10 (d .count) (d .number)) a,
+      fraction-last (numeral whole) (digitText 10 (d .count) (d .number)) a,
     )
-    go true e = rw (append-nil (digitText 10 size whole), eqb-true (d .count) 0 e)
-        (whole-only (digitText 10 size whole) (text-digits size whole), fraction-none (digitText 10 size whole) (text-digits size whole))
+    go true e = rw (append-nil (numeral whole), eqb-true (d .count) 0 e) (whole-only (numeral whole) a, fraction-none (numeral whole) a)
 
--- what is put is read as the same float
-pub round-trip : (x : Float) (p : Parts) (bs : List ℕ) → (s : Shown x p bs) → s .size + s .digits .count ≤ 15 → decimalOf bs ≡ Number x
-round-trip x p bs s l =
-    let D = digitText 10 (s .size) (p .whole) in
-    let E = digitText 10 (s .digits .count) (s .digits .number) in
-    let m : length D ≡ s .size = digits-length 10 (s .size) (p .whole) in
-    let n : length E ≡ s .digits .count = digits-length 10 (s .digits .count) (s .digits .number) in
-    let v : valueAfter 0 (D ++ E) ≡ p .whole * 10 ^ s .digits .count + s .digits .number =
-    value-join 0 D E ∙ ap (λ (a : ℕ). valueAfter a E) (text-value 0 (s .size) (p .whole) (s .sized .enough) ∙ omega arith) ∙ text-value (p .whole)
-    (s .digits .count) (s .digits .number) (s .proper) in
-    rw (s .text, no-sign D (cond (eqb (s .digits .count) 0) [] (46 ∷ E)) (text-digits (s .size) (p .whole)) (omega (arith, s .sized .some)))
-    (read-parts (textOf (s .size) (p .whole) (s .digits)) D E (text-digits (s .size) (p .whole)) (text-digits (s .digits .count) (s .digits .number))
-    (text-parts (s .size) (p .whole) (s .digits) .0)
-    (text-parts (s .size) (p .whole) (s .digits) .1)
-    (omega (arith, s .sized .some))
-    (omega arith)
-    ∙ ap Number (ap₂ (λ (a k : ℕ). round binary64 false a (10 ^ k)) v n ∙ s .reads))
+-- ---- a numeral
+
+record Numeral (n : ℕ) : Type 0 where
+  digits : areDigits (numeral n) ≡ true
+  value : valueAfter 0 (numeral n) ≡ n
+  some : 0 < length (numeral n)
+
+numeral-read : (n : ℕ) → n < 18446744073709551616 → Numeral n
+numeral-read n h =
+    let k = suc (size-exists n h .0) in
+    let s : IsSize n k = size-exists n h .1 in
+    let e : numeral n ≡ digitText 10 k n = numeral-digits n k h s in
+    record {
+      digits = ap areDigits e ∙ text-digits k n;
+      value = ap (valueAfter 0) e ∙ text-value 0 k n (s .enough) ∙ omega arith;
+      some = omega (arith, numeral-length n k h s, s .some);
+    }
+
+-- a text that shows a float is read as it
+shown-read : (x : Float) (p : Parts) (bs : List ℕ) → Shown x p bs → p .whole < 18446744073709551616 → length (digitsIn bs) ≤ 15 → decimalOf bs ≡ Number x
+shown-read x p bs s h l =
+    let d = s .digits in
+    let w = numeral-read (p .whole) h in
+    let D = numeral (p .whole) in
+    let E = digitText 10 (d .count) (d .number) in
+    let t = text-parts (p .whole) d (w .digits) in
+    let m : length (digitsIn (textOf (p .whole) d)) ≤ 15 = rw (s .text) at l in
+    let v : valueAfter 0 (D ++ E) ≡ p .whole * 10 ^ d .count + d .number =
+    value-join 0 D E ∙ ap (λ (a : ℕ). valueAfter a E) (w .value) ∙ text-value (p .whole) (d .count) (d .number) (s .proper) in
+    rw (s .text, no-sign D (cond (eqb (d .count) 0) [] (46 ∷ E)) (w .digits) (w .some))
+    (read-parts (textOf (p .whole) d) D E (w .digits) (text-digits (d .count) (d .number)) (t .0) (t .1) (w .some) m
+    ∙ ap Number (ap₂ (λ (a k : ℕ). round binary64 false a (10 ^ k)) v (digits-length 10 (d .count) (d .number)) ∙ s .reads))
+
+-- what is put for a float is read as the same float
+pub round-trip : (x : Float) → fits binary64 x ≡ true → inDecimalRange x ≡ true → length (digitsIn (numberText x)) ≤ 15
+    → decimalOf (numberText x) ≡ Number x
+round-trip x f i l =
+    let bits = toBits binary64 x in
+    let b = whole-below (bits / 2 ^ 52) (bits % 2 ^ 52) (range-fields x i .1) (mod-lt bits (lit< tt)) in
+    shown-read x (partsIn bits) (numberText x) (shown x f i) (omega (arith, b)) l

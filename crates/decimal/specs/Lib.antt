@@ -2,4 +2,5 @@ pub mod Decimal
 pub mod Scan
 pub mod Digits
 pub mod Text
+pub mod Shortest
 pub mod Printing

@@ -1,26 +1,18 @@
--- Serves proofs: how a float's text is put together, from its parts and from its bits.
-use mathlib.Core.Path.{_≡_}
-use mathlib.Core.Bool.{Bool, true, false, cond}
+-- Serves proofs: how the digits of a fraction are found, and the text of a float by its bits.
+use mathlib.Core.Bool.{Bool, false, cond}
 use mathlib.Core.List.{List}
-use Prim.Native.Nat.{ℕ, _/_, _^_}
+use Prim.Native.Nat.{ℕ, _-_, _/_, _^_}
 use lib.Dec.{leb}
-use lib.Ieee.{binary64, ofBits}
-use Rattle.decimal.specs.declared.Digits.{Digits}
-use Rattle.decimal.specs.Text.{IsSize, textOf, hexadecimal, Put, partsIn, Shown}
+use Rattle.decimal.specs.Text.{decimalText, hexadecimal, partsIn}
 
--- a number's text is put, with as many digits before the point as the whole number has
-pub record PutParts (whole : ℕ) (d : Digits) (old new : List ℕ) (at next : ℕ) : Type 0 where
-  pub size : ℕ
-  pub sized : IsSize whole size
-  pub put : Put (textOf size whole d) old new at next
+-- no number of so many digits is within the margin, where rest of 2^60 is left over
+abbrev pub isFar : ℕ → ℕ → Bool
+isFar rest margin = cond (leb margin rest) (leb margin (2 ^ 60 - rest)) false
 
--- the exponent fields of the floats in that range
+-- the exponent fields of the floats from 2^-6 to below 2^20
 abbrev pub inFields : ℕ → Bool
 inFields field = cond (leb 1017 field) (leb field 1042) false
 
 -- for the float with these bits: its shortest decimal in the range, the bits outside
-pub record PutBits (bits : ℕ) (old new : List ℕ) (at next : ℕ) : Type 0 where
-  pub bytes : List ℕ
-  pub in-range : inFields (bits / 2 ^ 52) ≡ true → Shown (ofBits binary64 bits) (partsIn bits) bytes
-  pub out-of-range : inFields (bits / 2 ^ 52) ≡ false → bytes ≡ hexadecimal bits
-  pub put : Put bytes old new at next
+abbrev pub bitsText : ℕ → List ℕ
+bitsText bits = cond (inFields (bits / 2 ^ 52)) (decimalText (partsIn bits)) (hexadecimal bits)

@@ -1,17 +1,15 @@
 // Decimal text as the nearest float, and a float as the shortest decimal text.
 ghost use mathlib.Core.Path.{_≡_};
-ghost use mathlib.Core.Bool.{false, cond};
-ghost use Prim.Native.Nat.{_+_, _-_, _*_, _^_, _≤_, _<_};
+ghost use mathlib.Core.Bool.{cond};
+ghost use Prim.Native.Nat.{_+_, _*_, _^_, _≤_, _<_};
 ghost use lib.Dec.{eqb, leb};
-ghost use lib.ListN.{length};
 ghost use lib.Ieee.{binary64, round};
 ghost use lib.Ieee.Nearest.{closest};
-ghost use Rattle.fields.specs.Writing.{spliced};
 ghost use Rattle.decimal.specs.Decimal.{isDigit, decimalOf, unsignedOf};
 ghost use Rattle.decimal.specs.Scan.{Bounded, begun, spoiled, pointed, withDigit, scannedByte, scanned};
-ghost use Rattle.decimal.specs.Digits.{partsOf, Shortest};
-ghost use Rattle.decimal.specs.Text.{digitByte, digitText, IsSize, Put, hexadecimal, notNumber, PutNumber};
-ghost use Rattle.decimal.specs.Printing.{PutParts, PutBits};
+ghost use Rattle.decimal.specs.Digits.{partsOf, shortestDigits};
+ghost use Rattle.decimal.specs.Text.{Put, textOf, hexadecimal, notNumber, numberText};
+ghost use Rattle.decimal.specs.Printing.{isFar, bitsText};
 
 // What a text is: the nearest float, no number, or a number of more than 15 digits.
 pub enum Decimal {
@@ -220,7 +218,7 @@ fn parts_of(field: u64, below: u64) -> Parts
 // Whether no number of so many digits is within the margin.
 fn is_far(rest: u64, margin: u64) -> bool
     requires { ⌜ rest < 2 ^ 60 ⌝ }
-    ensures { λ r. ⌜ r ≡ cond (leb margin rest) (leb margin (2 ^ 60 - rest)) false ⌝ }
+    ensures { λ r. ⌜ r ≡ isFar rest margin ⌝ }
 {
     if margin <= rest {
         margin <= ONE - rest
@@ -246,7 +244,7 @@ fn nearer(number: u64, rest: u64) -> u64
 // The fewest digits that stand for a fraction of 2^60 to within half, and of those the nearest.
 fn digits_of(fraction: u64, half: u64) -> Digits
     requires { ⌜ (0 < half) × (fraction < 2 ^ 60) ⌝ }
-    ensures { λ r. ⌜ Shortest fraction half r ⌝ }
+    ensures { λ r. ⌜ r ≡ shortestDigits fraction half ⌝ }
 {
     let mut rest = fraction;
     let mut margin = half;
@@ -262,45 +260,6 @@ fn digits_of(fraction: u64, half: u64) -> Digits
         number: nearer(number, rest),
         count,
     }
-}
-
-fn digit_byte(digit: u64) -> u8
-    requires { ⌜ digit < 16 ⌝ }
-    ensures { λ r. ⌜ r ≡ digitByte digit ⌝ }
-{
-    if digit < 10 {
-        (48 + digit) as u8
-    } else {
-        (87 + digit) as u8
-    }
-}
-
-// The last count digits of a number, zeros before it where it has fewer.
-fn put_digits(n: u64, base: u64, count: usize, out: &mut [u8], at: usize)
-    requires { ⌜ (2 ≤ base) × (base ≤ 16) × (at + count ≤ length (now out)) ⌝ }
-    ensures { λ r. ⌜ now (out .exit) ≡ spliced (now (out .entry)) at (digitText base count n) ⌝ }
-{
-    let mut left = n;
-    let mut i = count;
-    while 0 < i {
-        i -= 1;
-        out[at + i] = digit_byte(left % base);
-        left = left / base;
-    }
-}
-
-// How many decimal digits a number has: 1 for 0.
-fn size_of(n: u64) -> usize
-    requires { ⌜ n < 2 ^ 60 ⌝ }
-    ensures { λ r. ⌜ IsSize n r ⌝ }
-{
-    let mut count: usize = 1;
-    let mut unit: u64 = 10;
-    while unit <= n {
-        unit *= 10;
-        count += 1;
-    }
-    count
 }
 
 // How long the text after a whole number is.
@@ -324,21 +283,21 @@ fn has_room(length: usize, at: usize, bytes: usize) -> bool
 
 // Whole number, and after a point the fraction's digits, if there are any.
 fn put_parts(whole: u64, d: Digits, out: &mut [u8], at: usize) -> usize
-    requires { ⌜ (whole < 2 ^ 60) × (d .count ≤ 18) ⌝ }
-    ensures { λ r. ⌜ PutParts whole d (now (out .entry)) (now (out .exit)) at r ⌝ }
+    requires { ⌜ d .count ≤ 18 ⌝ }
+    ensures { λ r. ⌜ Put (textOf whole d) (now (out .entry)) (now (out .exit)) at r ⌝ }
 {
-    let size = size_of(whole);
+    let size = numerals::digit_count(whole);
     let count = d.count;
     let total = size + tail_length(count);
     if !has_room(out.len(), at, total) {
         return at;
     }
-    put_digits(whole, 10, size, out, at);
+    numerals::put_digits(whole, 10, size, out, at);
     if count == 0 {
         return at + size;
     }
     out[at + size] = b'.';
-    put_digits(d.number, 10, count, out, at + size + 1);
+    numerals::put_digits(d.number, 10, count, out, at + size + 1);
     at + total
 }
 
@@ -351,7 +310,7 @@ fn put_hexadecimal(bits: u64, out: &mut [u8], at: usize) -> usize
     }
     out[at] = b'0';
     out[at + 1] = b'x';
-    put_digits(bits, 16, 16, out, at + 2);
+    numerals::put_digits(bits, 16, 16, out, at + 2);
     at + 18
 }
 
@@ -368,7 +327,7 @@ fn put_nan(out: &mut [u8], at: usize) -> usize
 }
 
 fn put_bits(bits: u64, out: &mut [u8], at: usize) -> usize
-    ensures { λ r. ⌜ PutBits bits (now (out .entry)) (now (out .exit)) at r ⌝ }
+    ensures { λ r. ⌜ Put (bitsText bits) (now (out .entry)) (now (out .exit)) at r ⌝ }
 {
     let field = bits / STEPS;
     if field < 1017 {
@@ -386,7 +345,7 @@ fn put_bits(bits: u64, out: &mut [u8], at: usize) -> usize
 // Other floats, which the press never asks for: their bits in hexadecimal, or nan. What does not fit is not written.
 // Gives the place after the text.
 pub fn put_number(x: f64, out: &mut [u8], at: usize) -> usize
-    ensures { λ r. ⌜ PutNumber x (now (out .entry)) (now (out .exit)) at r ⌝ }
+    ensures { λ r. ⌜ Put (numberText x) (now (out .entry)) (now (out .exit)) at r ⌝ }
 {
     if x != x {
         return put_nan(out, at);

@@ -6,7 +6,7 @@ use Prim.Native.Nat.{ℕ, zero, suc, _+_, _*_, _/_, _%_, _^_, _≤_, _<_}
 use native.Mathlib.Nat.{zero-add, pow-suc, mod-lt, div-lt-iff-lt-mul, le-div-iff-mul-le, le-of-suc-le-suc, lt-of-not-le, le-trans}
 use native.Mathlib.Numerals.{add-one}
 use native.Mathlib.Omega.{arith}
-use borrow.Author.Tests.{lt-ltb, le-ltb, ltb-false}
+use borrow.Author.Tests.{lt-ltb, le-ltb, ltb-true, ltb-false}
 use lib.Dec.{ltb, lit<}
 use lib.ListN.{length, length-append}
 use Rattle.numerals.specs.Numerals.{digitByte, digitText, numeralWithin, numeral}
@@ -44,6 +44,19 @@ size-more n k t s =
 -- no more digits than a bound has
 pub size-most : (m n k : ℕ) → 0 < m → IsSize n k → n < 10 ^ m → k ≤ m
 size-most m n k z s h = le-of-suc-le-suc (lt-of-not-le (λ (g : suc m ≤ k). omega (arith, s .all m z g)))
+
+size-within : (g n : ℕ) → n < 10 ^ suc g → (k : ℕ) × IsSize n (suc k)
+size-within zero n h = (0, size-one n h)
+size-within (suc g) n h =
+    go (size-within g (n / 10) (div-lt-iff-lt-mul (lit< tt) .1 (subst (λ (x : ℕ). n < x) (pow-suc 10 (suc g)) h))) (ltb n 10) refl
+  where
+    go : (k : ℕ) × IsSize (n / 10) (suc k) → (b : Bool) → ltb n 10 ≡ b → (k : ℕ) × IsSize n (suc k)
+    go s true e = (0, size-one n (ltb-true n 10 e))
+    go s false e = (suc (s .0), size-more n (s .0) (ltb-false n 10 e) (s .1))
+
+-- every number of 64 bits has a size
+pub size-exists : (n : ℕ) → n < 18446744073709551616 → (k : ℕ) × IsSize n (suc k)
+size-exists n h = size-within 19 n (omega arith)
 
 -- ---- the digits of a numeral
 

@@ -6,9 +6,9 @@ use Rattle.decimal.proofs.digits_of.Reads as digits-of-reads
 use Rattle.decimal.proofs.parts_of.Reads as parts-of-reads
 use Rattle.decimal.proofs.put_hexadecimal.Reads as put-hexadecimal-reads
 use Rattle.decimal.proofs.put_parts.Reads as put-parts-reads
-use native.Mathlib.Nat.{mod-lt}
-use lib.Dec.{lit<}
-use Rattle.decimal.proofs.Sizes.{half-pos, fraction-below, whole-below}
+use Rattle.decimal.proofs.Sizes.{half-pos, fraction-below}
+use Rattle.decimal.proofs.Shortest.{digits-few}
+use Rattle.decimal.proofs.Texts.{put-same}
 use Rattle.decimal.proofs.Floats.{bits-below, bits-above, bits-within}
 
 put-hexadecimal-requires : tie.Need-put-hexadecimal-requires
@@ -21,7 +21,7 @@ returns : tie.Need-returns
 returns c =
     let at-if1 = c .before .before .before .before in
     let at-start = at-if1 .before .before in
-    bits-below (at-start .args .bits) _ _ (at-start .args .at) _ (at-if1 .if1 .taken)
+    put-same _ _ _ _ (at-start .args .at) _ (bits-below (at-start .args .bits) (at-if1 .if1 .taken))
     (c .before .before .put-hexadecimal .ensures)
 
 put-hexadecimal-requires-2 : tie.Need-put-hexadecimal-requires-2
@@ -35,7 +35,7 @@ returns-2 c =
     let at-if2 = c .before .before .before .before in
     let at-if1 = at-if2 .before in
     let at-start = at-if1 .before .before in
-    bits-above (at-start .args .bits) _ _ (at-start .args .at) _ (at-if1 .if1 .left) (at-if2 .if2 .taken)
+    put-same _ _ _ _ (at-start .args .at) _ (bits-above (at-start .args .bits) (at-if1 .if1 .left) (at-if2 .if2 .taken))
     (c .before .before .put-hexadecimal2 .ensures)
 
 parts-of-requires : tie.Need-parts-of-requires
@@ -45,13 +45,7 @@ digits-of-requires : tie.Need-digits-of-requires
 digits-of-requires c κs = (rw (c .parts-of .ensures) (half-pos _ _), rw (c .parts-of .ensures) (fraction-below _ _))
 
 put-parts-requires : tie.Need-put-parts-requires
-put-parts-requires c κs =
-    let at-if2 = c .before .before .before in
-    let at-start = at-if2 .before .before .before in (
-      rw (c .before .before .parts-of .ensures)
-          (whole-below _ _ (at-if2 .if2 .left) (mod-lt (at-start .args .bits) (lit< tt))),
-      c .before .digits-of .ensures .few,
-    )
+put-parts-requires c κs = rw (c .before .digits-of .ensures) (digits-few _ _)
 
 same-length-3 : tie.Need-same-length-3
 same-length-3 c = search needs
@@ -63,9 +57,10 @@ returns-3 c =
     let at-if2 = at-parts-of .before in
     let at-if1 = at-if2 .before in
     let at-start = at-if1 .before .before in
-    bits-within (at-start .args .bits) _ _ (at-start .args .at) _ (at-parts-of .parts-of .result)
-    (at-digits-of .digits-of .result) (at-if1 .if1 .left) (at-if2 .if2 .left) (at-parts-of .parts-of .ensures)
-    (at-digits-of .digits-of .ensures) (c .before .before .put-parts .ensures)
+    put-same _ _ _ _ (at-start .args .at) _
+    (bits-within (at-start .args .bits) (at-parts-of .parts-of .result) (at-digits-of .digits-of .result)
+    (at-if1 .if1 .left) (at-if2 .if2 .left) (at-parts-of .parts-of .ensures) (at-digits-of .digits-of .ensures))
+    (c .before .before .put-parts .ensures)
 
 pub put-bits-spec : {M : Type 1} → statement M
 put-bits-spec =

@@ -3,92 +3,53 @@ use borrow.Author.Needs.{needs}
 use Rattle.decimal.proofs.put_nan.Statement.{statement}
 use Rattle.decimal.proofs.put_nan.Tie as tie
 use Rattle.decimal.proofs.has_room.Reads as has-room-reads
-use native.Mathlib.Omega.{arith}
-use Rattle.decimal.specs.Text.{notNumber}
 use mathlib.Core.Path.{refl}
+use Prim.Native.Nat.{_+_, _≤_}
+use native.Mathlib.Omega.{arith}
 use lib.ListN.{length, length-set}
+use Rattle.decimal.specs.Text.{notNumber}
 use Rattle.decimal.proofs.Texts.{room, no-room, not-fitting, done, nan-done}
+
+-- where the text fits
+room-for : (c : tie.Else1) → let given = c .before .before .before .args in given .at + 3 ≤ length (given .out .now)
+room-for c =
+    let given = c .before .before .before .args in
+    room (given .at) 3 (length (given .out .now)) (c .before .has-room .result) (c .before .has-room .ensures) (c .if1 .left)
 
 has-room-requires : tie.Need-has-room-requires
 has-room-requires c κs = search needs
 
 returns : tie.Need-returns
 returns c =
-    let at-start = c .before .before .before in
-    let given = at-start .args in
+    let given = c .before .before .before .args in
     not-fitting notNumber (given .out .now) (given .at) 3 refl
-    (no-room (given .at) 3 (length (given .out .now)) (c .before .has-room .result) (c .before .has-room .ensures)
-    (c .if1 .taken))
+    (no-room (given .at) 3 (length (given .out .now)) (c .before .has-room .result) (c .before .has-room .ensures) (c .if1 .taken))
 
 slice-write-out : tie.Need-slice-write-out
-slice-write-out c =
-    let at-start = c .before .before .before in
-    omega (
-      arith,
-      room (at-start .args .at) 3 (length (at-start .args .out .now)) (c .before .has-room .result)
-          (c .before .has-room .ensures) (c .if1 .left),
-    )
+slice-write-out c = omega (arith, room-for c)
 
 add-out : tie.Need-add-out
-add-out c =
-    let at-start = c .before .before .before in
-    omega (
-      arith,
-      room (at-start .args .at) 3 (length (at-start .args .out .now)) (c .before .has-room .result)
-          (c .before .has-room .ensures) (c .if1 .left),
-    )
+add-out c = omega (arith, room-for c)
 
 slice-write-out-2 : tie.Need-slice-write-out-2
-slice-write-out-2 c =
-    let at-start = c .before .before .before in
-    simp length-set
-    (omega (
-      arith,
-      room (at-start .args .at) 3 (length (at-start .args .out .now)) (c .before .has-room .result)
-          (c .before .has-room .ensures) (c .if1 .left),
-    ))
+slice-write-out-2 c = simp length-set (omega (arith, room-for c))
 
 add-out-2 : tie.Need-add-out-2
-add-out-2 c =
-    let at-start = c .before .before .before in
-    omega (
-      arith,
-      room (at-start .args .at) 3 (length (at-start .args .out .now)) (c .before .has-room .result)
-          (c .before .has-room .ensures) (c .if1 .left),
-    )
+add-out-2 c = omega (arith, room-for c)
 
 slice-write-out-3 : tie.Need-slice-write-out-3
-slice-write-out-3 c =
-    let at-start = c .before .before .before in
-    simp length-set
-    (omega (
-      arith,
-      room (at-start .args .at) 3 (length (at-start .args .out .now)) (c .before .has-room .result)
-          (c .before .has-room .ensures) (c .if1 .left),
-    ))
+slice-write-out-3 c = simp length-set (omega (arith, room-for c))
 
 add-result : tie.Need-add-result
-add-result c =
-    let at-start = c .before .before .before in
-    omega (
-      arith,
-      room (at-start .args .at) 3 (length (at-start .args .out .now)) (c .before .has-room .result)
-          (c .before .has-room .ensures) (c .if1 .left),
-    )
+add-result c = omega (arith, room-for c)
 
 same-length : tie.Need-same-length
 same-length c = search needs
 
 returns-2 : tie.Need-returns-2
 returns-2 c =
-    let at-start = c .before .before .before in
-    let given = at-start .args in
-    done notNumber (given .out .now) _ (given .at) 3 refl
-    (room (given .at) 3 (length (given .out .now)) (c .before .has-room .result) (c .before .has-room .ensures)
-    (c .if1 .left))
-    (nan-done (given .out .now) (given .at)
-    (room (given .at) 3 (length (given .out .now)) (c .before .has-room .result) (c .before .has-room .ensures)
-    (c .if1 .left)))
+    let given = c .before .before .before .args in
+    done notNumber (given .out .now) _ (given .at) 3 refl (room-for c) (nan-done (given .out .now) (given .at) (room-for c))
 
 pub put-nan-spec : {M : Type 1} → statement M
 put-nan-spec =

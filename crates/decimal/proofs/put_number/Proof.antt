@@ -4,6 +4,7 @@ use Rattle.decimal.proofs.put_number.Statement.{statement}
 use Rattle.decimal.proofs.put_number.Tie as tie
 use Rattle.decimal.proofs.put_bits.Reads as put-bits-reads
 use Rattle.decimal.proofs.put_nan.Reads as put-nan-reads
+use Rattle.decimal.proofs.Texts.{put-same}
 use Rattle.decimal.proofs.Floats.{is-number, number-nan, number-bits}
 
 put-nan-requires : tie.Need-put-nan-requires
@@ -16,7 +17,7 @@ returns : tie.Need-returns
 returns c =
     let at-if1 = c .before .before .before .before in
     let at-start = at-if1 .before .before in
-    number-nan (at-start .args .x) _ _ (at-start .args .at) _ (at-if1 .if1 .taken) (c .before .before .put-nan .ensures)
+    put-same _ _ _ _ (at-start .args .at) _ (number-nan (at-start .args .x) (at-if1 .if1 .taken)) (c .before .before .put-nan .ensures)
 
 float-to-bits-put-bits : tie.Need-float-to-bits-put-bits
 float-to-bits-put-bits c = rw (is-number (c .before .before .args .x) (c .if1 .left)) tt
@@ -31,7 +32,7 @@ returns-2 : tie.Need-returns-2
 returns-2 c =
     let at-if1 = c .before .before .before .before in
     let at-start = at-if1 .before .before in
-    number-bits (at-start .args .x) _ _ (at-start .args .at) _ (at-start .good .0 .1) (at-if1 .if1 .left)
+    put-same _ _ _ _ (at-start .args .at) _ (number-bits (at-start .args .x) (at-if1 .if1 .left))
     (c .before .before .put-bits .ensures)
 
 pub put-number-spec : {M : Type 1} → statement M
