@@ -13,10 +13,7 @@ use refusal::Verdict;
 ghost use mathlib.Core.Path.{_≡_};
 ghost use Prim.Native.Nat.{_*_, _≤_};
 ghost use lib.ListN.{length};
-ghost use Rattle.io.specs.Counts.{Counts};
 ghost use Rattle.refusal.specs.Refusals.{largestSide};
-ghost use Rattle.numerals.specs.Numerals.{Puts};
-ghost use Rattle.jobtool.specs.Words.{tidyLine};
 
 // The longest input and the longest answer, in bytes; the usage line tells it.
 const LIMIT: usize = 1048576;
@@ -206,20 +203,6 @@ fn print_bytes(fd: i32, out: &[u8], n: usize) -> bool {
     io::write_all(fd, &out[..n])
 }
 
-// The word of the check for a tidy file, as a line at the start of a page; gives its length.
-fn put_tidy(page: &mut [u8]) -> usize
-    requires { ⌜ 5 ≤ length (now page) ⌝ }
-    ensures { λ r. ⌜ Puts (now (page .entry)) 0 tidyLine (now (page .exit)) r × Counts r (now (page .exit)) ⌝ }
-{
-    text::put_bytes(page, 0, b"tidy\n")
-}
-
-fn print_tidy(fd: i32) -> bool {
-    let mut line = [0u8; 8];
-    let used = put_tidy(&mut line);
-    io::write_all(fd, &line[..used])
-}
-
 fn print_answer(
     fd: i32,
     command: Command,
@@ -229,7 +212,7 @@ fn print_answer(
     n: usize,
 ) -> bool {
     match command {
-        Command::Check => print_tidy(fd),
+        Command::Check => printing::print_tidy(fd),
         Command::Show => printing::print_file(fd, input),
         Command::Motions => moves::print_motions(fd, input, scale),
         Command::List => print_bytes(fd, out, n),

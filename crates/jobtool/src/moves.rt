@@ -26,7 +26,7 @@ fn print_job(fd: i32, file: &[u8], job: Job, scale: Scale) -> bool
 pub fn print_motions(fd: i32, file: &[u8], scale: Scale) -> bool {
     let answer = reading::read(file);
     match answer {
-        ReadAnswer::Unreadable(_) => false,
         ReadAnswer::Readable(job) => print_job(fd, file, job, scale),
+        ReadAnswer::Unreadable(_) => false,
     }
 }

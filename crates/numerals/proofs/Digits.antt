@@ -1,13 +1,13 @@
 -- Digits put at a place, the last one first; how long they are.
 use mathlib.Core.Path.{_≡_, refl, sym, _∙_, subst}
-use mathlib.Core.List.{List, [], _∷_, _++_, append-assoc}
+use mathlib.Core.List.{List, [], _∷_, _++_, append-assoc, map}
 use Prim.Native.Nat.{ℕ, zero, suc, _+_, _-_, _/_, _%_, _≤_, _<_}
 use native.Mathlib.Omega.{arith}
 use lib.ListN.{length, take, drop, set, length-append, length-set}
 use lib.Seq.{take-set-le, drop-set-lt, drop-cons, getD-set-same}
 use Rattle.fields.specs.Writing.{spliced}
 use Rattle.fields.proofs.Splice.{splice-nil}
-use Rattle.numerals.specs.Numerals.{digitByte, digitText}
+use Rattle.numerals.specs.Numerals.{digitByte, digitText, numeralWithin, numeral}
 
 pub digits-length : (base k n : ℕ) → length (digitText base k n) ≡ k
 digits-length base zero n = refl
@@ -40,3 +40,11 @@ digits-more old base at (suc i) left b z h e =
 pub digits-end : (old new : List ℕ) (base at i left : ℕ) → i ≤ 0 → spliced old at (digitText base i left) ≡ new → old ≡ new
 digits-end old new base at zero left h e = sym (splice-nil old at) ∙ e
 digits-end old new base at (suc i) left h e = absurd (omega arith)
+
+-- ---- numerals at some numbers, computed: "0", "9", "10", "100", "65540", and the largest of 64 bits
+
+pub numerals-computed : map numeral (0 ∷ 9 ∷ 10 ∷ 100 ∷ 65540 ∷ 18446744073709551615 ∷ [])
+    ≡ (48 ∷ []) ∷ (57 ∷ []) ∷ (49 ∷ 48 ∷ []) ∷ (49 ∷ 48 ∷ 48 ∷ []) ∷ (54 ∷ 53 ∷ 53 ∷ 52 ∷ 48 ∷ [])
+    ∷ (49 ∷ 56 ∷ 52 ∷ 52 ∷ 54 ∷ 55 ∷ 52 ∷ 52 ∷ 48 ∷ 55 ∷ 51 ∷ 55 ∷ 48 ∷ 57 ∷ 53 ∷ 53 ∷ 49 ∷ 54 ∷ 49 ∷ 53 ∷ []) ∷ []
+unfolding numeral numeralWithin
+numerals-computed = refl

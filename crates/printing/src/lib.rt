@@ -11,6 +11,13 @@ pub fn print_refusal(fd: i32, refusal: Refusal) -> bool {
     io::write_all(fd, &line[..used])
 }
 
+// The line of a tidy file.
+pub fn print_tidy(fd: i32) -> bool {
+    let mut line = [0u8; 64];
+    let used = text::put_tidy(&mut line);
+    io::write_all(fd, &line[..used])
+}
+
 // The text of a readable file: each page goes on where the one before ended.
 fn print_job(fd: i32, file: &[u8], job: Job) -> bool
     requires { ⌜ JobOf (now file) job ⌝ }

@@ -38,8 +38,8 @@ use Rattle.text.specs.declared.Page.{Page}
 use Rattle.text.specs.Text.{refusalLine, listText, answerText}
 use Rattle.text.specs.Pages.{lineAt, lineCount, PageOf}
 use Rattle.text.proofs.Pages.{page-whole}
-use Rattle.scan_text.specs.Program.{fileBuffer, plateIn, plungesOf, listLength, scanVerdict, plungesText}
-use Rattle.scan_text.specs.Listed.{mostCells, textRoom, ListedFile}
+use Rattle.scan_text.specs.Program.{fileBuffer, mostCells, textRoom, plateIn, plungesOf, listLength, scanVerdict, plungesText}
+use Rattle.scan_text.specs.Listed.{ListedFile}
 
 abbrev pub refused : ℕ → Verdict
 refused n = Refused (record { number = n; place = 0 })
@@ -134,7 +134,7 @@ module _ (s file : List ℕ) (n : ℕ) (f : ListedFile s file n) where
   scan-sound : Sound (byteIn s 1) (byteIn s 2) false (length (depths s)) × (listLength s ≤ fileBuffer)
   scan-sound =
       let both = both-accepted _ _ (sym (first-append (mapTrials (byteIn s 0) (byteIn s 1) (byteIn s 2) false (length (depths s) ∷ []))
-          (trial (ltb fileBuffer (listLength s)) 5 (listLength s) ∷ [])) ∙ f .accepted) in
+      (trial (ltb fileBuffer (listLength s)) 5 (listLength s) ∷ [])) ∙ f .accepted) in
       (map-sound (byteIn s 0) (byteIn s 1) (byteIn s 2) false (length (depths s)) (both .0), room (ltb fileBuffer (listLength s)) refl (both .1))
     where
       room : (t : Bool) → ltb fileBuffer (listLength s) ≡ t → cond t (Refused (record { number = 5; place = listLength s })) Accepted ≡ Accepted → listLength s ≤ fileBuffer

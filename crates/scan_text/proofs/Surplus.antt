@@ -17,8 +17,7 @@ use Rattle.fields.specs.Fields.{fileLength}
 use Rattle.jobs.specs.Calls.{listed}
 use Rattle.scan.specs.Scan.{byteIn, depths}
 use Rattle.text.specs.Text.{answerText}
-use Rattle.scan_text.specs.Program.{fileBuffer, plungesText}
-use Rattle.scan_text.specs.Listed.{mostCells, mostScan}
+use Rattle.scan_text.specs.Program.{fileBuffer, mostCells, mostScan, plungesText}
 use Rattle.scan_text.proofs.Scans.{refused, cells-most}
 
 -- ---- with the three bytes apart

@@ -1,13 +1,13 @@
 -- To be believed: what the program `plunges` writes, for any standard input (document 01, at the end of "Blocks to try").
 use mathlib.Core.Bool.{false}
 use mathlib.Core.List.{List, [], _∷_, _++_}
-use Prim.Native.Nat.{ℕ}
+use Prim.Native.Nat.{ℕ, _+_, _*_}
 use lib.Dec.{ltb}
 use lib.ListN.{length}
 use Rattle.geometry.specs.declared.Head.{Head}
 use Rattle.geometry.specs.declared.Plunge.{Plunge}
 use Rattle.refusal.specs.declared.Verdict.{Verdict}
-use Rattle.refusal.specs.Refusals.{trial, firstMet, mapTrials, headOf}
+use Rattle.refusal.specs.Refusals.{trial, firstMet, mapTrials, headOf, largestSide}
 use Rattle.fields.specs.Fields.{fileLength}
 use Rattle.jobs.specs.Calls.{listed}
 use Rattle.scan.specs.Scan.{byteIn, depths}
@@ -16,6 +16,18 @@ use Rattle.text.specs.Text.{answerText}
 -- "Its file buffer is 65,536 bytes."
 abbrev pub fileBuffer : ℕ
 fileBuffer = 65536
+
+-- the cells of the largest plate
+abbrev pub mostCells : ℕ
+mostCells = largestSide * largestSide
+
+-- kind, width, height, and a depth for each cell of the largest plate
+abbrev pub mostScan : ℕ
+mostScan = 3 + mostCells
+
+-- 32 bytes for each line: 9,360 plunges have room in the file buffer, and two lines more
+abbrev pub textRoom : ℕ
+textRoom = 32 * 9362
 
 -- "kind, width, height (a missing one counts as 0), then depths": the plate, and the plunges of the relief
 abbrev pub plateIn : List ℕ → Head

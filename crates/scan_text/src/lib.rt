@@ -7,8 +7,8 @@ ghost use lib.ListN.{length};
 ghost use Rattle.io.specs.Counts.{Counts};
 ghost use Rattle.numerals.specs.Numerals.{Puts};
 ghost use Rattle.text.specs.Text.{listText};
-ghost use Rattle.scan_text.specs.Program.{fileBuffer, plateIn, plungesOf, plungesText};
-ghost use Rattle.scan_text.specs.Listed.{mostCells, textRoom, ListedFile};
+ghost use Rattle.scan_text.specs.Program.{fileBuffer, mostCells, textRoom, plateIn, plungesOf, plungesText};
+ghost use Rattle.scan_text.specs.Listed.{ListedFile};
 
 const SIDE: usize = refusal::LARGEST_SIDE as usize;
 

@@ -16,11 +16,10 @@ use Rattle.geometry.specs.declared.Kind.the-variants.{Diamond, Square}
 use Rattle.geometry.specs.declared.Head.{Head}
 use Rattle.geometry.specs.declared.Plunge.{Plunge}
 use Rattle.geometry.specs.Forms.{kindByte}
-use Rattle.refusal.specs.declared.Refusal.{Refusal}
 use Rattle.io.specs.Counts.{Counts}
 use Rattle.numerals.specs.Numerals.{numeral, Puts}
 use Rattle.numerals.proofs.Sizes.{numeral-most, numeral-short}
-use Rattle.text.specs.Text.{word, plateWord, totalWord, refusedWord, plateLine, plungeLine, totalLine, refusalLine}
+use Rattle.text.specs.Text.{word, plateWord, totalWord, refusedWord, plateLine, plungeLine, totalLine}
 
 pub counts : (n : ℕ) (l : List ℕ) → n ≤ length l → Counts n l
 counts n l h = (h, sym (length-take-le n l h))
@@ -116,16 +115,16 @@ module _ (old : List ℕ) (at : ℕ) (bs : List ℕ) (h : at + length bs ≤ len
 word-length : (n mark : ℕ) → length (word n mark) ≡ length (numeral n) + 1
 word-length n mark = length-append (numeral n) (mark ∷ [])
 
-pub refusal-room : (r : Refusal) (page : List ℕ) → 64 ≤ length page → 0 + length (refusalLine r) ≤ length page
-refusal-room r page h =
+pub refusal-room : (number place : ℕ) (page : List ℕ) → 64 ≤ length page → 0 + length (refusedWord ++ word number 32 ++ word place 10) ≤ length page
+refusal-room number place page h =
     omega (
       arith,
-      length-append (refusedWord ++ word (r .number) 32) (word (r .place) 10),
-      length-append refusedWord (word (r .number) 32),
-      word-length (r .number) 32,
-      word-length (r .place) 10,
-      numeral-most (r .number),
-      numeral-most (r .place),
+      length-append (refusedWord ++ word number 32) (word place 10),
+      length-append refusedWord (word number 32),
+      word-length number 32,
+      word-length place 10,
+      numeral-most number,
+      numeral-most place,
     )
 
 pub total-room : (n : ℕ) → length (totalLine n) ≤ 32

@@ -48,6 +48,10 @@ listText p qs = plateLine p ++ plungeLines qs ++ totalLine (length qs)
 abbrev pub refusalLine : Refusal → List ℕ
 refusalLine r = refusedWord ++ word (r .number) 32 ++ word (r .place) 10
 
+-- "tidy": what jobtool prints of a file that the tidy check accepts
+abbrev pub tidyLine : List ℕ
+tidyLine = 116 ∷ 105 ∷ 100 ∷ 121 ∷ 10 ∷ []
+
 -- the text of a verdict on a list: the list's, or the refusal's one line
 abbrev pub answerText : Verdict → Head → List Plunge → List ℕ
 answerText Accepted p qs = listText p qs

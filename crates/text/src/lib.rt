@@ -9,7 +9,7 @@ ghost use lib.ListN.{length};
 ghost use Rattle.io.specs.Counts.{Counts};
 ghost use Rattle.numerals.specs.Numerals.{Puts};
 ghost use Rattle.reading.specs.Steps.{JobOf};
-ghost use Rattle.text.specs.Text.{word, plateLine, plungeLine, totalLine, refusalLine};
+ghost use Rattle.text.specs.Text.{word, plateLine, plungeLine, totalLine, refusalLine, tidyLine};
 ghost use Rattle.text.specs.Pages.{lineAt, lineCount, PageOf};
 
 // Room for any line of a list's text.
@@ -88,6 +88,14 @@ pub fn put_refusal(page: &mut [u8], refusal: Refusal) -> usize
     let a = put_bytes(page, 0, b"refused ");
     let b = put_word(page, a, refusal.number as u64, b' ');
     put_word(page, b, refusal.place as u64, b'\n')
+}
+
+// The line of a file that is tidy, at the start of a page; gives its length.
+pub fn put_tidy(page: &mut [u8]) -> usize
+    requires { ⌜ 64 ≤ length (now page) ⌝ }
+    ensures { λ r. ⌜ Puts (now (page .entry)) 0 tidyLine (now (page .exit)) r × Counts r (now (page .exit)) ⌝ }
+{
+    put_bytes(page, 0, b"tidy\n")
 }
 
 // ---- the text of a file

@@ -53,17 +53,22 @@ returns c = search needs
 
 loop-less : tie.Need-loop-less Inv-loop μ-loop
 loop-less c =
-    let at-start = c .before .before .before .before .before .before .before .before .before .before in
-    let at-loop = c .before .before .before .before .before .before .before in
-    let put = c .before .before .before .before .«put-page» in
+    let at-put-page = c .before .before .before .before in
+    let at-loop-test = at-put-page .before .before in
+    let at-start = at-loop-test .before .before .before .before in
+    let at-loop = at-loop-test .before in
+    let put = at-put-page .«put-page» in
     let f = at-start .args .file .now in
-    let on = page-goes-on (lineAt f) (lineCount f) 32 (at-loop .loop .next) (at-loop .loop .page) (put .last .0) (put .result) (put .ensures .0)
-        (omega (arith, at-start .pre .plunges, c .before .before .before .before .before .before .loop-test .taken)) (omega (arith, at-loop .loop .inv .1)) in
+    let on =
+    page-goes-on (lineAt f) (lineCount f) 32 (at-loop .loop .next) (at-loop .loop .page) (put .last .0) (put .result)
+    (put .ensures .0) (omega (arith, at-start .pre .plunges, at-loop-test .loop-test .taken))
+    (omega (arith, at-loop .loop .inv .1)) in
     omega (arith, on, put .ensures .0 .within)
 
 loop-again : tie.Need-loop-again Inv-loop μ-loop
 loop-again c =
-    let put = c .before .before .before .before .«put-page» in
+    let at-put-page = c .before .before .before .before in
+    let put = at-put-page .«put-page» in
     (put .ensures .0 .within, search needs)
 
 returns-2 : tie.Need-returns-2 Inv-loop μ-loop

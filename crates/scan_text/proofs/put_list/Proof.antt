@@ -32,10 +32,12 @@ head-of-requires c κs = search needs
 
 put-page-requires : tie.Need-put-page-requires
 put-page-requires c κs =
-    let at-start = c .before .before .before .before .before .before .before .before in
+    let at-byte-in2 = c .before .before .before in
+    let at-byte-in = at-byte-in2 .before in
+    let at-start = at-byte-in .before .before .before .before in
     let given = at-start .args in
-    let e : c .before .«head-of» .result ≡ plateIn (given .scan .now) = c .before .«head-of» .ensures ∙ same-head (c .before .before .before .before .«byte-in» .ensures) (c .before .before .before .«byte-in2» .ensures)
-        (c .before .before .«byte-in3» .ensures) in
+    let e : c .before .«head-of» .result ≡ plateIn (given .scan .now) = c .before .«head-of» .ensures ∙ same-head
+    (at-byte-in .«byte-in» .ensures) (at-byte-in2 .«byte-in2» .ensures) (c .before .before .«byte-in3» .ensures) in
     (job-of (given .scan .now) (given .file .now) (given .plunges) (at-start .pre .0) _ e, omega arith)
 
 same-length : tie.Need-same-length
@@ -43,11 +45,15 @@ same-length c = search needs
 
 returns : tie.Need-returns
 returns c =
-    let at-start = c .before .before .before .before .before .before .before .before .before .before .before in
+    let at-shared-slice-known2 = c .before .before .before .before .before .before .before .before in
+    let at-start = at-shared-slice-known2 .before .before .before in
     let given = at-start .args in
-    let put = c .before .before .«put-page» in
-    (text-put (given .scan .now) (given .file .now) (given .plunges) (at-start .pre .0) (λ i. c .before .before .before .before .before .before .before .before .«shared-slice-known2» .given i .fits) (given .text .now)
-    (put .last .0) (put .result) (at-start .pre .1) (put .ensures .0), put .ensures .1)
+    let put = c .before .before .«put-page» in (
+      text-put (given .scan .now) (given .file .now) (given .plunges) (at-start .pre .0)
+          (λ i. at-shared-slice-known2 .«shared-slice-known2» .given i .fits) (given .text .now) (put .last .0) (put .result)
+          (at-start .pre .1) (put .ensures .0),
+      put .ensures .1,
+    )
 
 pub put-list-spec : {M : Type 1} → statement M
 put-list-spec =

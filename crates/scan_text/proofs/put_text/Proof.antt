@@ -51,78 +51,119 @@ enum-known-answer-2 c = search needs
 
 array-share-prefix-file : tie.Need-array-share-prefix-file
 array-share-prefix-file c =
-    let at-start = c .before .before .before .before .before .before .before .before .before .before .before .before .before .before .before .before in
+    let at-list-scan = c .before .before .before .before .before .before .before in
+    let at-cells2 = at-list-scan .before .before .before .before in
+    let at-cells = at-cells2 .before in
+    let at-file-buffer = at-cells .before in
+    let at-start = at-file-buffer .before .before .before in
     let s = at-start .args .scan .now in
-    let call = c .before .before .before .before .before .before .before .«list-scan» in
-    let file = c .before .before .before .before .before .before .before .before .before .before .before .before .before .«file-buffer» in
-    let a = c .before .before .before .before .before .before .before .before .before .before .before .before .cells in
-    let b = c .before .before .before .before .before .before .before .before .before .before .before .cells2 in
-    let r = subst (λ (x : ListAnswer). ListCall (depths s) (byteIn s 0) (byteIn s 1) (byteIn s 2) (file .result) (call .last .1 .0) (a .result) (call .last .1 .1 .0)
-        (b .result) (call .last .1 .1 .1 .0) x) (c .before .before .answer2 .given .1) (call .ensures) in
-    listed-counts s (file .result) (a .result) (b .result) (file .ensures) (a .ensures) (b .ensures) (call .last .1 .0) (call .last .1 .1 .0)
-    (call .last .1 .1 .1 .0) _ r .0
+    let call = at-list-scan .«list-scan» in
+    let file = at-file-buffer .«file-buffer» in
+    let a = at-cells .cells in
+    let b = at-cells2 .cells2 in
+    let r =
+    subst
+    (λ (x : ListAnswer). ListCall (depths s) (byteIn s 0) (byteIn s 1) (byteIn s 2) (file .result) (call .last .1 .0) (a .result) (call .last .1 .1 .0) (b .result) (call .last .1 .1 .1 .0) x)
+    (c .before .before .answer2 .given .1) (call .ensures) in
+    listed-counts s (file .result) (a .result) (b .result) (file .ensures) (a .ensures) (b .ensures) (call .last .1 .0)
+    (call .last .1 .1 .0) (call .last .1 .1 .1 .0) _ r .0
 
 slice-aggregate-put-list : tie.Need-slice-aggregate-put-list
 slice-aggregate-put-list c =
-    let at-start = c .before .before .before .before .before .before .before .before .before .before .before .before .before .before .before .before .before in
+    let at-answer2 = c .before .before .before in
+    let at-list-scan = at-answer2 .before .before .before .before .before in
+    let at-cells2 = at-list-scan .before .before .before .before in
+    let at-cells = at-cells2 .before in
+    let at-file-buffer = at-cells .before in
+    let at-start = at-file-buffer .before .before .before in
     let s = at-start .args .scan .now in
-    let call = c .before .before .before .before .before .before .before .before .«list-scan» in
-    let file = c .before .before .before .before .before .before .before .before .before .before .before .before .before .before .«file-buffer» in
-    let a = c .before .before .before .before .before .before .before .before .before .before .before .before .before .cells in
-    let b = c .before .before .before .before .before .before .before .before .before .before .before .before .cells2 in
-    let r = subst (λ (x : ListAnswer). ListCall (depths s) (byteIn s 0) (byteIn s 1) (byteIn s 2) (file .result) (call .last .1 .0) (a .result) (call .last .1 .1 .0)
-        (b .result) (call .last .1 .1 .1 .0) x) (c .before .before .before .answer2 .given .1) (call .ensures) in
-    listed-counts s (file .result) (a .result) (b .result) (file .ensures) (a .ensures) (b .ensures) (call .last .1 .0) (call .last .1 .1 .0)
-    (call .last .1 .1 .1 .0) _ r .1
+    let call = at-list-scan .«list-scan» in
+    let file = at-file-buffer .«file-buffer» in
+    let a = at-cells .cells in
+    let b = at-cells2 .cells2 in
+    let r =
+    subst
+    (λ (x : ListAnswer). ListCall (depths s) (byteIn s 0) (byteIn s 1) (byteIn s 2) (file .result) (call .last .1 .0) (a .result) (call .last .1 .1 .0) (b .result) (call .last .1 .1 .1 .0) x)
+    (at-answer2 .answer2 .given .1) (call .ensures) in
+    listed-counts s (file .result) (a .result) (b .result) (file .ensures) (a .ensures) (b .ensures) (call .last .1 .0)
+    (call .last .1 .1 .0) (call .last .1 .1 .1 .0) _ r .1
 
 put-list-requires : tie.Need-put-list-requires
 put-list-requires c κs =
-    let at-start = c .before .before .before .before .before .before .before .before .before .before .before .before .before .before .before .before .before in
+    let at-answer2 = c .before .before .before in
+    let at-list-scan = at-answer2 .before .before .before .before .before in
+    let at-cells2 = at-list-scan .before .before .before .before in
+    let at-cells = at-cells2 .before in
+    let at-file-buffer = at-cells .before in
+    let at-start = at-file-buffer .before .before .before in
     let s = at-start .args .scan .now in
-    let call = c .before .before .before .before .before .before .before .before .«list-scan» in
-    let file = c .before .before .before .before .before .before .before .before .before .before .before .before .before .before .«file-buffer» in
-    let a = c .before .before .before .before .before .before .before .before .before .before .before .before .before .cells in
-    let b = c .before .before .before .before .before .before .before .before .before .before .before .before .cells2 in
-    let r = subst (λ (x : ListAnswer). ListCall (depths s) (byteIn s 0) (byteIn s 1) (byteIn s 2) (file .result) (call .last .1 .0) (a .result) (call .last .1 .1 .0)
-        (b .result) (call .last .1 .1 .1 .0) x) (c .before .before .before .answer2 .given .1) (call .ensures) in
-    (listed-file s (file .result) (a .result) (b .result) (file .ensures) (a .ensures) (b .ensures) (call .last .1 .0) (call .last .1 .1 .0)
-    (call .last .1 .1 .1 .0) _ r, at-start .pre)
+    let call = at-list-scan .«list-scan» in
+    let file = at-file-buffer .«file-buffer» in
+    let a = at-cells .cells in
+    let b = at-cells2 .cells2 in
+    let r =
+    subst
+    (λ (x : ListAnswer). ListCall (depths s) (byteIn s 0) (byteIn s 1) (byteIn s 2) (file .result) (call .last .1 .0) (a .result) (call .last .1 .1 .0) (b .result) (call .last .1 .1 .1 .0) x)
+    (at-answer2 .answer2 .given .1) (call .ensures) in (
+      listed-file s (file .result) (a .result) (b .result) (file .ensures) (a .ensures) (b .ensures) (call .last .1 .0)
+          (call .last .1 .1 .0) (call .last .1 .1 .1 .0) _ r,
+      at-start .pre,
+    )
 
 same-length : tie.Need-same-length
 same-length c = search needs
 
 returns : tie.Need-returns
 returns c =
-    let at-start = c .before .before .before .before .before .before .before .before .before .before .before .before .before .before .before .before .before .before .before in
+    let at-answer = c .before .before .before .before .before in
+    let at-list-scan = at-answer .before .before .before .before .before in
+    let at-cells2 = at-list-scan .before .before .before .before in
+    let at-cells = at-cells2 .before in
+    let at-file-buffer = at-cells .before in
+    let at-start = at-file-buffer .before .before .before in
     let s = at-start .args .scan .now in
-    let call = c .before .before .before .before .before .before .before .before .before .before .«list-scan» in
-    let file = c .before .before .before .before .before .before .before .before .before .before .before .before .before .before .before .before .«file-buffer» in
-    let a = c .before .before .before .before .before .before .before .before .before .before .before .before .before .before .before .cells in
-    let b = c .before .before .before .before .before .before .before .before .before .before .before .before .before .before .cells2 in
-    let r = subst (λ (x : ListAnswer). ListCall (depths s) (byteIn s 0) (byteIn s 1) (byteIn s 2) (file .result) (call .last .1 .0) (a .result) (call .last .1 .1 .0)
-        (b .result) (call .last .1 .1 .1 .0) x) (c .before .before .before .before .before .answer .given .1) (call .ensures) in
-    (subst (λ (xs : List ℕ). Puts (at-start .args .text .now) 0 xs (c .before .before .«put-refusal» .last .0) (c .before .before .«put-refusal» .result))
-    (unlisted-text s (file .result) (a .result) (b .result) (file .ensures) (a .ensures) (b .ensures) (call .last .1 .0) (call .last .1 .1 .0)
-    (call .last .1 .1 .1 .0) _ r)
-    (c .before .before .«put-refusal» .ensures .0), c .before .before .«put-refusal» .ensures .1)
+    let call = at-list-scan .«list-scan» in
+    let file = at-file-buffer .«file-buffer» in
+    let a = at-cells .cells in
+    let b = at-cells2 .cells2 in
+    let r =
+    subst
+    (λ (x : ListAnswer). ListCall (depths s) (byteIn s 0) (byteIn s 1) (byteIn s 2) (file .result) (call .last .1 .0) (a .result) (call .last .1 .1 .0) (b .result) (call .last .1 .1 .1 .0) x)
+    (at-answer .answer .given .1) (call .ensures) in (
+      subst
+          (λ (xs : List ℕ). Puts (at-start .args .text .now) 0 xs (c .before .before .«put-refusal» .last .0) (c .before .before .«put-refusal» .result))
+          (unlisted-text s (file .result) (a .result) (b .result) (file .ensures) (a .ensures) (b .ensures) (call .last .1 .0)
+          (call .last .1 .1 .0) (call .last .1 .1 .1 .0) _ r) (c .before .before .«put-refusal» .ensures .0),
+      c .before .before .«put-refusal» .ensures .1,
+    )
 
 same-length-2 : tie.Need-same-length-2
 same-length-2 c = search needs
 
 returns-2 : tie.Need-returns-2
 returns-2 c =
-    let at-start = c .before .before .before .before .before .before .before .before .before .before .before .before .before .before .before .before .before .before .before .before in
+    let at-answer2 = c .before .before .before .before .before .before in
+    let at-list-scan = at-answer2 .before .before .before .before .before in
+    let at-cells2 = at-list-scan .before .before .before .before in
+    let at-cells = at-cells2 .before in
+    let at-file-buffer = at-cells .before in
+    let at-start = at-file-buffer .before .before .before in
     let s = at-start .args .scan .now in
-    let call = c .before .before .before .before .before .before .before .before .before .before .before .«list-scan» in
-    let file = c .before .before .before .before .before .before .before .before .before .before .before .before .before .before .before .before .before .«file-buffer» in
-    let a = c .before .before .before .before .before .before .before .before .before .before .before .before .before .before .before .before .cells in
-    let b = c .before .before .before .before .before .before .before .before .before .before .before .before .before .before .before .cells2 in
-    let r = subst (λ (x : ListAnswer). ListCall (depths s) (byteIn s 0) (byteIn s 1) (byteIn s 2) (file .result) (call .last .1 .0) (a .result) (call .last .1 .1 .0)
-        (b .result) (call .last .1 .1 .1 .0) x) (c .before .before .before .before .before .before .answer2 .given .1) (call .ensures) in
-    (subst (λ (xs : List ℕ). Puts (at-start .args .text .now) 0 xs (c .before .before .«put-list» .last .0) (c .before .before .«put-list» .result))
-    (listed-text s _ _ (listed-file s (file .result) (a .result) (b .result) (file .ensures) (a .ensures) (b .ensures) (call .last .1 .0) (call .last .1 .1 .0)
-    (call .last .1 .1 .1 .0) _ r))
-    (c .before .before .«put-list» .ensures .0), c .before .before .«put-list» .ensures .1)
+    let call = at-list-scan .«list-scan» in
+    let file = at-file-buffer .«file-buffer» in
+    let a = at-cells .cells in
+    let b = at-cells2 .cells2 in
+    let r =
+    subst
+    (λ (x : ListAnswer). ListCall (depths s) (byteIn s 0) (byteIn s 1) (byteIn s 2) (file .result) (call .last .1 .0) (a .result) (call .last .1 .1 .0) (b .result) (call .last .1 .1 .1 .0) x)
+    (at-answer2 .answer2 .given .1) (call .ensures) in (
+      subst
+          (λ (xs : List ℕ). Puts (at-start .args .text .now) 0 xs (c .before .before .«put-list» .last .0) (c .before .before .«put-list» .result))
+          (listed-text s _ _
+          (listed-file s (file .result) (a .result) (b .result) (file .ensures) (a .ensures) (b .ensures) (call .last .1 .0)
+          (call .last .1 .1 .0) (call .last .1 .1 .1 .0) _ r)) (c .before .before .«put-list» .ensures .0),
+      c .before .before .«put-list» .ensures .1,
+    )
 
 pub put-text-spec : {M : Type 1} → statement M
 put-text-spec =

@@ -45,11 +45,11 @@ returns c =
     let given = at-start .args in
     let f = given .file .now in
     let w = at-start .pre .0 in
-    let at-loop = c .before .before in
-    (
-    filled-page (lineAt f) (lineCount f) (given .from) (given .page .now) 32 (at-loop .loop .page) (at-loop .loop .used) (at-loop .loop .next)
-    (at-loop .loop .inv) (λ h. omega (arith, c .if1 .taken, at-loop .loop .inv .same, at-loop .loop .inv .fits)),
-    counts (at-loop .loop .used) (at-loop .loop .page) (omega (arith, at-loop .loop .inv .same, at-loop .loop .inv .fits)))
+    let at-loop = c .before .before in (
+      filled-page (lineAt f) (lineCount f) (given .from) (given .page .now) 32 (at-loop .loop .page) (at-loop .loop .used) (at-loop .loop .next)
+          (at-loop .loop .inv) (λ h. omega (arith, c .if1 .taken, at-loop .loop .inv .same, at-loop .loop .inv .fits)),
+      counts (at-loop .loop .used) (at-loop .loop .page) (omega (arith, at-loop .loop .inv .same, at-loop .loop .inv .fits)),
+    )
 
 put-line-requires : tie.Need-put-line-requires Inv-loop μ-loop
 put-line-requires c κs =
@@ -62,25 +62,31 @@ put-line-requires c κs =
 
 add-next : tie.Need-add-next Inv-loop μ-loop
 add-next c =
-    let at-start = c .before .before .before .before .before .before .before .before .before in
-    omega (arith, at-start .pre .0 .plunges, c .before .before .before .before .before .loop-test .taken)
+    let at-loop-test = c .before .before .before .before .before in
+    let at-start = at-loop-test .before .before .before .before in
+    omega (arith, at-start .pre .0 .plunges, at-loop-test .loop-test .taken)
 
 loop-less : tie.Need-loop-less Inv-loop μ-loop
 loop-less c =
-    let at-start = c .before .before .before .before .before .before .before .before .before in
-    omega (arith, at-start .pre .0 .plunges, c .before .before .before .before .before .loop-test .taken)
+    let at-loop-test = c .before .before .before .before .before in
+    let at-start = at-loop-test .before .before .before .before in
+    omega (arith, at-start .pre .0 .plunges, at-loop-test .loop-test .taken)
 
 loop-again : tie.Need-loop-again Inv-loop μ-loop
 loop-again c =
-    let at-start = c .before .before .before .before .before .before .before .before .before in
+    let at-if1 = c .before .before .before .before in
+    let at-loop-test = at-if1 .before in
+    let at-start = at-loop-test .before .before .before .before in
     let given = at-start .args in
     let f = given .file .now in
     let w = at-start .pre .0 in
-    let at-loop = c .before .before .before .before .before .before in
+    let at-loop = at-loop-test .before in
     let put = c .before .before .«put-line» in
-    filled-more (lineAt f) (lineCount f) (given .from) (given .page .now) (at-loop .loop .page) (put .last .0) (at-loop .loop .used)
-    (at-loop .loop .next) (put .result) (at-loop .loop .inv) (omega (arith, w .plunges, c .before .before .before .before .before .loop-test .taken)) (put .ensures .0)
-    (omega (arith, put .ensures .0 .1, put .ensures .1, c .before .before .before .before .if1 .left, at-loop .loop .inv .same, at-loop .loop .inv .fits))
+    filled-more (lineAt f) (lineCount f) (given .from) (given .page .now) (at-loop .loop .page) (put .last .0)
+    (at-loop .loop .used) (at-loop .loop .next) (put .result) (at-loop .loop .inv)
+    (omega (arith, w .plunges, at-loop-test .loop-test .taken)) (put .ensures .0)
+    (omega
+    (arith, put .ensures .0 .1, put .ensures .1, at-if1 .if1 .left, at-loop .loop .inv .same, at-loop .loop .inv .fits))
 
 same-length-2 : tie.Need-same-length-2 Inv-loop μ-loop
 same-length-2 c =
@@ -92,11 +98,11 @@ returns-2 c =
     let given = at-start .args in
     let f = given .file .now in
     let w = at-start .pre .0 in
-    let at-loop = c .before in
-    (
-    filled-page (lineAt f) (lineCount f) (given .from) (given .page .now) 32 (at-loop .loop .page) (at-loop .loop .used) (at-loop .loop .next)
-    (at-loop .loop .inv) (λ h. absurd (omega (arith, c .loop-test .left, w .plunges, h))),
-    counts (at-loop .loop .used) (at-loop .loop .page) (omega (arith, at-loop .loop .inv .same, at-loop .loop .inv .fits)))
+    let at-loop = c .before in (
+      filled-page (lineAt f) (lineCount f) (given .from) (given .page .now) 32 (at-loop .loop .page) (at-loop .loop .used) (at-loop .loop .next)
+          (at-loop .loop .inv) (λ h. absurd (omega (arith, c .loop-test .left, w .plunges, h))),
+      counts (at-loop .loop .used) (at-loop .loop .page) (omega (arith, at-loop .loop .inv .same, at-loop .loop .inv .fits)),
+    )
 
 pub put-page-spec : {M : Type 1} → statement M
 put-page-spec =

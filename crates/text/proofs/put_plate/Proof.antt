@@ -41,7 +41,8 @@ cast-put-word c = search needs
 
 put-word-requires : tie.Need-put-word-requires
 put-word-requires c κs =
-    let at-start = c .before .before .before .before .before .before .before .before in
+    let at-put-bytes = c .before .before .before .before in
+    let at-start = at-put-bytes .before .before .before .before in
     let given = at-start .args in
     let l = given .page .now in
     let at = given .at in
@@ -50,78 +51,83 @@ put-word-requires c κs =
     let w3 = word (given .head .width) 32 in
     let w4 = word (given .head .height) 10 in
     let pre : at + length (plateWord ++ w2 ++ w3 ++ w4) ≤ length l = subst
-        (λ (n : ℕ). at + length (plateWord ++ word n 32 ++ w3 ++ w4) ≤ length l) (sym (c .byte .ensures)) (at-start .pre) in
-    let h = first-room l at (plateWord ++ w2 ++ w3) w4 pre in
-    let p1 = c .before .before .before .before .«put-bytes» in
-    room-2 l at plateWord w2 w3 h (p1 .last .0) (p1 .result) (p1 .ensures)
+    (λ (n : ℕ). at + length (plateWord ++ word n 32 ++ w3 ++ w4) ≤ length l) (sym (c .byte .ensures)) (at-start .pre) in
+    let h = first-room l at (plateWord ++ w2 ++ w3) w4 pre in let p1 = at-put-bytes .«put-bytes» in room-2 l at
+    plateWord w2 w3 h (p1 .last .0) (p1 .result) (p1 .ensures)
 
 cast-put-word-2 : tie.Need-cast-put-word-2
 cast-put-word-2 c = search needs
 
 put-word-requires-2 : tie.Need-put-word-requires-2
 put-word-requires-2 c κs =
-    let at-start = c .before .before .before .before .before .before .before .before .before .before .before .before .before in
+    let at-put-word = c .before .before .before .before in
+    let at-byte = at-put-word .before in
+    let at-put-bytes = at-byte .before .before .before .before in
+    let at-start = at-put-bytes .before .before .before .before in
     let given = at-start .args in
     let l = given .page .now in
     let at = given .at in
-    let k = c .before .before .before .before .before .byte .result in
+    let k = at-byte .byte .result in
     let w2 = word k 32 in
     let w3 = word (given .head .width) 32 in
     let w4 = word (given .head .height) 10 in
     let pre : at + length (plateWord ++ w2 ++ w3 ++ w4) ≤ length l = subst
-        (λ (n : ℕ). at + length (plateWord ++ word n 32 ++ w3 ++ w4) ≤ length l) (sym (c .before .before .before .before .before .byte .ensures)) (at-start .pre) in
-    let h = first-room l at (plateWord ++ w2 ++ w3) w4 pre in
-    let p1 = c .before .before .before .before .before .before .before .before .before .«put-bytes» in
-    let p2 = c .before .before .before .before .«put-word» in
-    room-3 l at plateWord w2 w3 h (p1 .last .0) (p1 .result) (p1 .ensures) (p2 .last .0) (p2 .result) (p2 .ensures)
+    (λ (n : ℕ). at + length (plateWord ++ word n 32 ++ w3 ++ w4) ≤ length l) (sym (at-byte .byte .ensures))
+    (at-start .pre) in let h = first-room l at (plateWord ++ w2 ++ w3) w4 pre in let p1 = at-put-bytes .«put-bytes» in
+    let p2 = at-put-word .«put-word» in room-3 l at plateWord w2 w3 h (p1 .last .0) (p1 .result) (p1 .ensures)
+    (p2 .last .0) (p2 .result) (p2 .ensures)
 
 cast-put-word-3 : tie.Need-cast-put-word-3
 cast-put-word-3 c = search needs
 
 put-word-requires-3 : tie.Need-put-word-requires-3
 put-word-requires-3 c κs =
-    let at-start = c .before .before .before .before .before .before .before .before .before .before .before .before .before .before .before .before .before .before in
+    let at-put-word2 = c .before .before .before .before in
+    let at-put-word = at-put-word2 .before .before .before .before .before in
+    let at-byte = at-put-word .before in
+    let at-put-bytes = at-byte .before .before .before .before in
+    let at-start = at-put-bytes .before .before .before .before in
     let given = at-start .args in
     let l = given .page .now in
     let at = given .at in
-    let k = c .before .before .before .before .before .before .before .before .before .before .byte .result in
+    let k = at-byte .byte .result in
     let w2 = word k 32 in
     let w3 = word (given .head .width) 32 in
     let w4 = word (given .head .height) 10 in
     let pre : at + length (plateWord ++ w2 ++ w3 ++ w4) ≤ length l = subst
-        (λ (n : ℕ). at + length (plateWord ++ word n 32 ++ w3 ++ w4) ≤ length l) (sym (c .before .before .before .before .before .before .before .before .before .before .byte .ensures)) (at-start .pre) in
-    let h = first-room l at (plateWord ++ w2 ++ w3) w4 pre in
-    let p1 = c .before .before .before .before .before .before .before .before .before .before .before .before .before .before .«put-bytes» in
-    let p2 = c .before .before .before .before .before .before .before .before .before .«put-word» in
-    let p3 = c .before .before .before .before .«put-word2» in
-    next-room l at (plateWord ++ w2 ++ w3) w4 pre (p3 .last .0) (p3 .result)
-    (three-texts l at plateWord w2 w3 h (p1 .last .0) (p1 .result) (p1 .ensures) (p2 .last .0) (p2 .result) (p2 .ensures)
-    (p3 .last .0) (p3 .result) (p3 .ensures))
+    (λ (n : ℕ). at + length (plateWord ++ word n 32 ++ w3 ++ w4) ≤ length l) (sym (at-byte .byte .ensures))
+    (at-start .pre) in let h = first-room l at (plateWord ++ w2 ++ w3) w4 pre in let p1 = at-put-bytes .«put-bytes» in
+    let p2 = at-put-word .«put-word» in let p3 = at-put-word2 .«put-word2» in next-room l at (plateWord ++ w2 ++ w3) w4
+    pre (p3 .last .0) (p3 .result)
+    (three-texts l at plateWord w2 w3 h (p1 .last .0) (p1 .result) (p1 .ensures) (p2 .last .0) (p2 .result)
+    (p2 .ensures) (p3 .last .0) (p3 .result) (p3 .ensures))
 
 same-length : tie.Need-same-length
 same-length c = search needs
 
 returns : tie.Need-returns
 returns c =
-    let at-start = c .before .before .before .before .before .before .before .before .before .before .before .before .before .before .before .before .before .before .before .before .before in
+    let at-put-word2 = c .before .before .before .before .before .before .before in
+    let at-put-word = at-put-word2 .before .before .before .before .before in
+    let at-byte = at-put-word .before in
+    let at-put-bytes = at-byte .before .before .before .before in
+    let at-start = at-put-bytes .before .before .before .before in
     let given = at-start .args in
     let l = given .page .now in
     let at = given .at in
-    let k = c .before .before .before .before .before .before .before .before .before .before .before .before .before .byte .result in
+    let k = at-byte .byte .result in
     let w2 = word k 32 in
     let w3 = word (given .head .width) 32 in
     let w4 = word (given .head .height) 10 in
     let pre : at + length (plateWord ++ w2 ++ w3 ++ w4) ≤ length l = subst
-        (λ (n : ℕ). at + length (plateWord ++ word n 32 ++ w3 ++ w4) ≤ length l) (sym (c .before .before .before .before .before .before .before .before .before .before .before .before .before .byte .ensures)) (at-start .pre) in
-    let h = first-room l at (plateWord ++ w2 ++ w3) w4 pre in
-    let p1 = c .before .before .before .before .before .before .before .before .before .before .before .before .before .before .before .before .before .«put-bytes» in
-    let p2 = c .before .before .before .before .before .before .before .before .before .before .before .before .«put-word» in
-    let p3 = c .before .before .before .before .before .before .before .«put-word2» in
-    let p4 = c .before .before .«put-word3» in
-    subst (λ (n : ℕ). Puts l at (plateWord ++ word n 32 ++ w3 ++ w4) (p4 .last .0) (p4 .result)) (c .before .before .before .before .before .before .before .before .before .before .before .before .before .byte .ensures)
+    (λ (n : ℕ). at + length (plateWord ++ word n 32 ++ w3 ++ w4) ≤ length l) (sym (at-byte .byte .ensures))
+    (at-start .pre) in let h = first-room l at (plateWord ++ w2 ++ w3) w4 pre in let p1 = at-put-bytes .«put-bytes» in
+    let p2 = at-put-word .«put-word» in let p3 = at-put-word2 .«put-word2» in let p4 = c .before .before .«put-word3» in
+    subst (λ (n : ℕ). Puts l at (plateWord ++ word n 32 ++ w3 ++ w4) (p4 .last .0) (p4 .result))
+    (at-byte .byte .ensures)
     (two-texts l at (plateWord ++ w2 ++ w3) w4 pre (p3 .last .0) (p4 .last .0) (p3 .result) (p4 .result)
-    (three-texts l at plateWord w2 w3 h (p1 .last .0) (p1 .result) (p1 .ensures) (p2 .last .0) (p2 .result) (p2 .ensures)
-    (p3 .last .0) (p3 .result) (p3 .ensures)) (p4 .ensures))
+    (three-texts l at plateWord w2 w3 h (p1 .last .0) (p1 .result) (p1 .ensures) (p2 .last .0) (p2 .result)
+    (p2 .ensures) (p3 .last .0) (p3 .result) (p3 .ensures)) (p4 .ensures))
 
 pub put-plate-spec : {M : Type 1} → statement M
 put-plate-spec =

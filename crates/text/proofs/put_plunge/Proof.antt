@@ -31,7 +31,8 @@ cast-put-word-2 c = search needs
 
 put-word-requires-2 : tie.Need-put-word-requires-2
 put-word-requires-2 c κs =
-    let at-start = c .before .before .before .before .before .before .before .before in
+    let at-put-word = c .before .before .before .before in
+    let at-start = at-put-word .before .before .before .before in
     let given = at-start .args in
     let l = given .page .now in
     let at = given .at in
@@ -41,7 +42,7 @@ put-word-requires-2 c κs =
     let w3 = word (q .column) 32 in
     let w4 = word (q .depth) 10 in
     let h = first-room l at (w1 ++ w2 ++ w3) w4 (at-start .pre) in
-    let p1 = c .before .before .before .before .«put-word» in
+    let p1 = at-put-word .«put-word» in
     room-2 l at w1 w2 w3 h (p1 .last .0) (p1 .result) (p1 .ensures)
 
 cast-put-word-3 : tie.Need-cast-put-word-3
@@ -49,7 +50,9 @@ cast-put-word-3 c = search needs
 
 put-word-requires-3 : tie.Need-put-word-requires-3
 put-word-requires-3 c κs =
-    let at-start = c .before .before .before .before .before .before .before .before .before .before .before .before .before in
+    let at-put-word2 = c .before .before .before .before in
+    let at-put-word = at-put-word2 .before .before .before .before .before in
+    let at-start = at-put-word .before .before .before .before in
     let given = at-start .args in
     let l = given .page .now in
     let at = given .at in
@@ -59,8 +62,8 @@ put-word-requires-3 c κs =
     let w3 = word (q .column) 32 in
     let w4 = word (q .depth) 10 in
     let h = first-room l at (w1 ++ w2 ++ w3) w4 (at-start .pre) in
-    let p1 = c .before .before .before .before .before .before .before .before .before .«put-word» in
-    let p2 = c .before .before .before .before .«put-word2» in
+    let p1 = at-put-word .«put-word» in
+    let p2 = at-put-word2 .«put-word2» in
     room-3 l at w1 w2 w3 h (p1 .last .0) (p1 .result) (p1 .ensures) (p2 .last .0) (p2 .result) (p2 .ensures)
 
 cast-put-word-4 : tie.Need-cast-put-word-4
@@ -68,7 +71,10 @@ cast-put-word-4 c = search needs
 
 put-word-requires-4 : tie.Need-put-word-requires-4
 put-word-requires-4 c κs =
-    let at-start = c .before .before .before .before .before .before .before .before .before .before .before .before .before .before .before .before .before .before in
+    let at-put-word3 = c .before .before .before .before in
+    let at-put-word2 = at-put-word3 .before .before .before .before .before in
+    let at-put-word = at-put-word2 .before .before .before .before .before in
+    let at-start = at-put-word .before .before .before .before in
     let given = at-start .args in
     let l = given .page .now in
     let at = given .at in
@@ -78,9 +84,9 @@ put-word-requires-4 c κs =
     let w3 = word (q .column) 32 in
     let w4 = word (q .depth) 10 in
     let h = first-room l at (w1 ++ w2 ++ w3) w4 (at-start .pre) in
-    let p1 = c .before .before .before .before .before .before .before .before .before .before .before .before .before .before .«put-word» in
-    let p2 = c .before .before .before .before .before .before .before .before .before .«put-word2» in
-    let p3 = c .before .before .before .before .«put-word3» in
+    let p1 = at-put-word .«put-word» in
+    let p2 = at-put-word2 .«put-word2» in
+    let p3 = at-put-word3 .«put-word3» in
     next-room l at (w1 ++ w2 ++ w3) w4 (at-start .pre) (p3 .last .0) (p3 .result)
     (three-texts l at w1 w2 w3 h (p1 .last .0) (p1 .result) (p1 .ensures) (p2 .last .0) (p2 .result) (p2 .ensures)
     (p3 .last .0) (p3 .result) (p3 .ensures))
@@ -90,7 +96,10 @@ same-length c = search needs
 
 returns : tie.Need-returns
 returns c =
-    let at-start = c .before .before .before .before .before .before .before .before .before .before .before .before .before .before .before .before .before .before .before .before .before in
+    let at-put-word3 = c .before .before .before .before .before .before .before in
+    let at-put-word2 = at-put-word3 .before .before .before .before .before in
+    let at-put-word = at-put-word2 .before .before .before .before .before in
+    let at-start = at-put-word .before .before .before .before in
     let given = at-start .args in
     let l = given .page .now in
     let at = given .at in
@@ -100,9 +109,9 @@ returns c =
     let w3 = word (q .column) 32 in
     let w4 = word (q .depth) 10 in
     let h = first-room l at (w1 ++ w2 ++ w3) w4 (at-start .pre) in
-    let p1 = c .before .before .before .before .before .before .before .before .before .before .before .before .before .before .before .before .before .«put-word» in
-    let p2 = c .before .before .before .before .before .before .before .before .before .before .before .before .«put-word2» in
-    let p3 = c .before .before .before .before .before .before .before .«put-word3» in
+    let p1 = at-put-word .«put-word» in
+    let p2 = at-put-word2 .«put-word2» in
+    let p3 = at-put-word3 .«put-word3» in
     let p4 = c .before .before .«put-word4» in
     two-texts l at (w1 ++ w2 ++ w3) w4 (at-start .pre) (p3 .last .0) (p4 .last .0) (p3 .result) (p4 .result)
     (three-texts l at w1 w2 w3 h (p1 .last .0) (p1 .result) (p1 .ensures) (p2 .last .0) (p2 .result) (p2 .ensures)

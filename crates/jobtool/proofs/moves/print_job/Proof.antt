@@ -1,4 +1,4 @@
--- `print_job` goes from page to page; each holds a line at least.
+-- `print_job` goes from page to page; each holds the lines of a plunge at least.
 use borrow.Author.Needs.{needs}
 use Rattle.jobtool.proofs.moves.print_job.Statement.{statement}
 use Rattle.jobtool.proofs.moves.print_job.Tie as tie
@@ -8,28 +8,24 @@ use mathlib.Core.Path.{_≡_}
 use Prim.Native.Nat.{_-_, _≤_}
 use native.Mathlib.Omega.{arith}
 use lib.ListN.{length}
-use Rattle.text.specs.Pages.{lineAt, lineCount}
+use Rattle.reading.specs.Reading.{total}
+use Rattle.motion_text.specs.Lines.{linesAt}
 use Rattle.text.proofs.Pages.{page-goes-on}
 use Rattle.io.proofs.large_buffer.Reads as large-buffer-reads
 use Rattle.io.proofs.write_all.Reads as write-all-reads
 use Rattle.motion_text.proofs.put_page.Reads as put-page-reads
 
 abbrev Inv-loop : tie.InvT-loop
-Inv-loop fd file job plunges page₀ next₀ page next = (next ≤ lineCount file) × (65536 ≡ length page)
+Inv-loop fd file job scale plunges page₀ next₀ page next = (next ≤ total file) × (65536 ≡ length page)
 
 abbrev μ-loop : tie.MeasureT-loop
-μ-loop fd file job plunges page₀ next₀ page next = lineCount file - next
+μ-loop fd file job scale plunges page₀ next₀ page next = total file - next
 
 large-buffer-requires : tie.Need-large-buffer-requires Inv-loop μ-loop
 large-buffer-requires c κs = search needs
 
 loop-holds : tie.Need-loop-holds Inv-loop μ-loop
 loop-holds c = (omega arith, c .«large-buffer» .ensures)
-
-add-loop : tie.Need-add-loop Inv-loop μ-loop
-add-loop c =
-    let at-start = c .before .before .before in
-    omega (arith, at-start .pre .plunges)
 
 slice-aggregate-put-page : tie.Need-slice-aggregate-put-page Inv-loop μ-loop
 slice-aggregate-put-page c = search needs
@@ -53,17 +49,22 @@ returns c = search needs
 
 loop-less : tie.Need-loop-less Inv-loop μ-loop
 loop-less c =
-    let at-start = c .before .before .before .before .before .before .before .before .before .before in
-    let at-loop = c .before .before .before .before .before .before .before in
-    let put = c .before .before .before .before .«put-page» in
+    let at-put-page = c .before .before .before .before in
+    let at-loop-test = at-put-page .before .before in
+    let at-start = at-loop-test .before .before .before .before in
+    let at-loop = at-loop-test .before in
+    let put = at-put-page .«put-page» in
     let f = at-start .args .file .now in
-    let on = page-goes-on (lineAt f) (lineCount f) 32 (at-loop .loop .next) (at-loop .loop .page) (put .last .0) (put .result) (put .ensures .0)
-        (omega (arith, at-start .pre .plunges, c .before .before .before .before .before .before .loop-test .taken)) (omega (arith, at-loop .loop .inv .1)) in
+    let on =
+    page-goes-on (linesAt f (at-start .args .scale)) (total f) 320 (at-loop .loop .next) (at-loop .loop .page)
+    (put .last .0) (put .result) (put .ensures .0)
+    (omega (arith, at-start .pre .plunges, at-loop-test .loop-test .taken)) (omega (arith, at-loop .loop .inv .1)) in
     omega (arith, on, put .ensures .0 .within)
 
 loop-again : tie.Need-loop-again Inv-loop μ-loop
 loop-again c =
-    let put = c .before .before .before .before .«put-page» in
+    let at-put-page = c .before .before .before .before in
+    let put = at-put-page .«put-page» in
     (put .ensures .0 .within, search needs)
 
 returns-2 : tie.Need-returns-2 Inv-loop μ-loop
@@ -77,7 +78,6 @@ print-job-spec =
     μ-loop
     large-buffer-requires
     loop-holds
-    add-loop
     slice-aggregate-put-page
     put-page-requires
     array-share-prefix-page
