@@ -63,7 +63,8 @@ pub fn list(
     a: &mut [u8],
     b: &mut [u8],
 ) -> ListAnswer
-    ensures { λ r. ⌜ ListCall (now (relief .entry)) kind width height (now (out .entry)) (now (out .exit)) (now (a .entry)) (now (a .exit)) (now (b .entry)) (now (b .exit)) r ⌝ }
+    ensures { λ r. ⌜ ListCall (now (relief .entry)) kind width height (now (out .entry)) (now (out .exit)) (now (a .entry)) (now (a .exit))
+        (now (b .entry)) (now (b .exit)) r ⌝ }
 {
     let room = shortest(relief.len(), a.len(), b.len());
     let verdict = refusal::check_map(kind, width, height, false, room);
@@ -78,7 +79,8 @@ pub fn list(
 
 // The canonical form of a file: drawn into c, then listed. The file's refusals, then 4 and 5.
 pub fn tidy(file: &[u8], out: &mut [u8], a: &mut [u8], b: &mut [u8], c: &mut [u8]) -> ListAnswer
-    ensures { λ r. ⌜ TidyCall (now (file .entry)) (now (out .entry)) (now (out .exit)) (now (a .entry)) (now (a .exit)) (now (b .entry)) (now (b .exit)) (now (c .entry)) (now (c .exit)) r ⌝ }
+    ensures { λ r. ⌜ TidyCall (now (file .entry)) (now (out .entry)) (now (out .exit)) (now (a .entry)) (now (a .exit)) (now (b .entry))
+        (now (b .exit)) (now (c .entry)) (now (c .exit)) r ⌝ }
 {
     let answer = reading::read(file);
     match answer {

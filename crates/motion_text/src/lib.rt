@@ -89,7 +89,8 @@ fn put_lines(page: &mut [u8], at: usize, file: &[u8], job: Job, i: usize, scale:
 // The lines of a readable file's plunges from one on, as many as the page has room for.
 pub fn put_page(page: &mut [u8], file: &[u8], job: Job, scale: Scale, from: usize) -> Page
     requires { ⌜ JobOf (now file) job × (from ≤ total (now file)) ⌝ }
-    ensures { λ r. ⌜ PageOf (linesAt (now (file .entry)) scale) (total (now (file .entry))) 320 from (now (page .entry)) (now (page .exit)) r × Counts (r .used) (now (page .exit)) ⌝ }
+    ensures { λ r. ⌜ PageOf (linesAt (now (file .entry)) scale) (total (now (file .entry))) 320 from (now (page .entry)) (now (page .exit)) r × Counts
+        (r .used) (now (page .exit)) ⌝ }
 {
     let plunges = job.plunges;
     let mut used = 0;

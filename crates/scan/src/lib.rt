@@ -24,7 +24,8 @@ fn depths(scan: &[u8]) -> &[u8]
 
 // The list of a scan's relief, as a file. Refusals 1, 2, 4 and 5.
 pub fn list_scan(scan: &[u8], out: &mut [u8], a: &mut [u8], b: &mut [u8]) -> ListAnswer
-    ensures { λ r. ⌜ ListCall (depths (now (scan .entry))) (byteIn (now (scan .entry)) 0) (byteIn (now (scan .entry)) 1) (byteIn (now (scan .entry)) 2) (now (out .entry)) (now (out .exit)) (now (a .entry)) (now (a .exit)) (now (b .entry)) (now (b .exit)) r ⌝ }
+    ensures { λ r. ⌜ ListCall (depths (now (scan .entry))) (byteIn (now (scan .entry)) 0) (byteIn (now (scan .entry)) 1)
+        (byteIn (now (scan .entry)) 2) (now (out .entry)) (now (out .exit)) (now (a .entry)) (now (a .exit)) (now (b .entry)) (now (b .exit)) r ⌝ }
 {
     let kind = byte_in(scan, 0);
     let width = byte_in(scan, 1);

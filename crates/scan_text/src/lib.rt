@@ -46,7 +46,8 @@ pub fn text_buffer() -> [u8; TEXT]
 // The text of a scan's list, from the file that was listed.
 fn put_list(text: &mut [u8], scan: &[u8], file: &[u8], plunges: usize) -> usize
     requires { ⌜ ListedFile (now scan) (now file) plunges × (textRoom ≤ length (now text)) ⌝ }
-    ensures { λ r. ⌜ Puts (now (text .entry)) 0 (listText (plateIn (now (scan .entry))) (plungesOf (now (scan .entry)))) (now (text .exit)) r × Counts r (now (text .exit)) ⌝ }
+    ensures { λ r. ⌜ Puts (now (text .entry)) 0 (listText (plateIn (now (scan .entry))) (plungesOf (now (scan .entry)))) (now (text .exit)) r × Counts
+        r (now (text .exit)) ⌝ }
 {
     let kind = scan::byte_in(scan, 0);
     let width = scan::byte_in(scan, 1);

@@ -118,7 +118,8 @@ fn put_line(page: &mut [u8], at: usize, file: &[u8], job: Job, i: usize) -> usiz
 // The lines of the text of a readable file from one on, as many as the page has room for.
 pub fn put_page(page: &mut [u8], file: &[u8], job: Job, from: usize) -> Page
     requires { ⌜ JobOf (now file) job × (from ≤ lineCount (now file)) ⌝ }
-    ensures { λ r. ⌜ PageOf (lineAt (now (file .entry))) (lineCount (now (file .entry))) 32 from (now (page .entry)) (now (page .exit)) r × Counts (r .used) (now (page .exit)) ⌝ }
+    ensures { λ r. ⌜ PageOf (lineAt (now (file .entry))) (lineCount (now (file .entry))) 32 from (now (page .entry)) (now (page .exit)) r × Counts
+        (r .used) (now (page .exit)) ⌝ }
 {
     let plunges = job.plunges;
     let mut used = 0;
