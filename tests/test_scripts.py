@@ -115,7 +115,7 @@ def statuses(tree):
 def signals(tree):
     """Ending the script ends the program."""
     noted = os.path.join(os.path.dirname(tree.top), "pid")
-    script = subprocess.Popen([os.path.join(tree.top, "jobtool"), "hang", noted], env=tree.environment())
+    script = subprocess.Popen([os.path.join(tree.top, "jobtool"), "hang", noted], stderr=subprocess.DEVNULL, env=tree.environment())
     for _ in range(600):
         if os.path.exists(noted) and open(noted, encoding="ascii").read().strip():
             break
