@@ -77,6 +77,12 @@ numeral-digits n (suc k) h s = within-digits k 19 n (omega (arith, size-most 20 
 pub numeral-length : (n k : ℕ) → n < 18446744073709551616 → IsSize n k → length (numeral n) ≡ k
 numeral-length n k h s = ap length (numeral-digits n k h s) ∙ digits-length 10 k n
 
+-- as many digits as its numeral
+pub numeral-size : (n r : ℕ) → n < 18446744073709551616 → r ≡ length (numeral n) → IsSize n r
+numeral-size n r h e =
+    let s = size-exists n h in
+    subst (IsSize n) (sym (e ∙ numeral-length n (suc (s .0)) h (s .1))) (s .1)
+
 -- ---- counting: digits that the rest has, and those that were cut off it
 
 pub record CutOff (n rest count : ℕ) : Type 0 where

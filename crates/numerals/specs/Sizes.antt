@@ -1,4 +1,4 @@
--- To be believed: how many decimal digits a number has.
+-- Serves proofs: how many decimal digits a number has.
 use Prim.Native.Nat.{ℕ, _^_, _≤_, _<_}
 
 -- n has k decimal digits, and 0 has one

@@ -4,7 +4,6 @@ ghost use Prim.Native.Nat.{_+_, _≤_, _<_};
 ghost use lib.ListN.{length};
 ghost use Rattle.fields.specs.Writing.{spliced};
 ghost use Rattle.numerals.specs.Numerals.{digitByte, digitText, numeral, Puts};
-ghost use Rattle.numerals.specs.Sizes.{IsSize};
 
 fn digit_byte(digit: u64) -> u8
     requires { ⌜ digit < 16 ⌝ }
@@ -33,7 +32,7 @@ pub fn put_digits(n: u64, base: u64, count: usize, out: &mut [u8], at: usize)
 
 // How many decimal digits a number has: 1 for 0.
 pub fn digit_count(n: u64) -> usize
-    ensures { λ r. ⌜ IsSize n r ⌝ }
+    ensures { λ r. ⌜ r ≡ length (numeral n) ⌝ }
 {
     let mut count: usize = 1;
     let mut rest = n;

@@ -12,7 +12,8 @@ use Rattle.clearance_maps.proofs.axis_map.Statement.{statement}
 use Rattle.clearance_maps.proofs.axis_map.Tie as tie
 
 -- an accepted call of `clearance_map` wrote the clearances
-mapped : (c : tie.After-head-of) → let at-clearance-map = c .before .before .before .before .before in
+mapped : (c : tie.After-head-of)
+    → let at-clearance-map = c .before .before .before .before .before in
     let at-start = at-clearance-map .before .before .before .before in
     let given = at-start .args in
     Mapped (c .head-of .result) (clearance (c .head-of .result) (given .relief .now) (given .level)) (given .out .now)

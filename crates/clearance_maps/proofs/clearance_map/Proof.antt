@@ -15,7 +15,9 @@ use Rattle.clearance_maps.proofs.clearance_map.Statement.{statement}
 use Rattle.clearance_maps.proofs.clearance_map.Tie as tie
 
 -- what was found is what is to be said
-said : (c : tie.After-check-map) → let given = c .before .before .before .before .args in
+said : (c : tie.After-check-map)
+    → let at-start = c .before .before .before .before in
+    let given = at-start .args in
     c .check-map .result ≡ levelVerdict (given .relief .now) (given .kind) (given .width) (given .height) (given .level) (given .out .now)
 said c =
     let at-start = c .before .before .before .before in

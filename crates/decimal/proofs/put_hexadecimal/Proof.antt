@@ -42,7 +42,9 @@ put-digits-requires : tie.Need-put-digits-requires
 put-digits-requires c κs = (lit≤ tt, lit≤ tt, simp length-set (omega (arith, room-for (c .before))))
 
 add-result : tie.Need-add-result
-add-result c = let at-if1 = c .before .before .before .before in omega (arith, room-for at-if1)
+add-result c =
+    let at-if1 = c .before .before .before .before in
+    omega (arith, room-for at-if1)
 
 same-length : tie.Need-same-length
 same-length c =

@@ -11,7 +11,7 @@ use Prim.Native.Nat.{_+_, _≤_}
 use native.Mathlib.Omega.{arith}
 use lib.ListN.{length, length-set}
 use lib.Dec.{lit<, lit≤}
-use Rattle.numerals.proofs.Sizes.{size-most}
+use Rattle.numerals.proofs.Sizes.{size-most, numeral-size}
 use Rattle.decimal.proofs.Texts.{Measured, room, no-room, tail-most, tail-some, parts-none, parts-whole, middle-same, parts-text, parts-both, parts-same}
 
 -- ---- what is known at a place
@@ -19,7 +19,8 @@ use Rattle.decimal.proofs.Texts.{Measured, room, no-room, tail-most, ta
 measured : (c : tie.After-tail-length) →
     let given = c .before .before .before .args in
     Measured (given .whole) (given .d) (c .before .digit-count .result) (c .tail-length .result)
-measured c = record { bound = omega arith; sized = c .before .digit-count .ensures; tailed = c .tail-length .ensures }
+measured c =
+    record { bound = omega arith; sized = numeral-size (c .before .before .before .args .whole) (c .before .digit-count .result) (omega arith) (c .before .digit-count .ensures); tailed = c .tail-length .ensures }
 
 room-for : (c : tie.Else1) →
     let at-digit-count = c .before .before .before in
@@ -52,7 +53,7 @@ add-total c =
     let at-start = c .before .before .before in
     omega (
       arith,
-      size-most 20 (at-start .args .whole) (c .before .digit-count .result) (lit< tt) (c .before .digit-count .ensures) (omega arith),
+      size-most 20 (at-start .args .whole) (c .before .digit-count .result) (lit< tt) (numeral-size (at-start .args .whole) (c .before .digit-count .result) (omega arith) (c .before .digit-count .ensures)) (omega arith),
       tail-most (c .tail-length .result) (at-start .args .d .count) (c .tail-length .ensures) (at-start .pre),
     )
 
@@ -72,7 +73,9 @@ put-digits-requires : tie.Need-put-digits-requires
 put-digits-requires c κs = (lit≤ tt, lit≤ tt, omega (arith, room-for (c .before)))
 
 add-result : tie.Need-add-result
-add-result c = let at-if1 = c .before .before .before .before .before in omega (arith, room-for at-if1)
+add-result c =
+    let at-if1 = c .before .before .before .before .before in
+    omega (arith, room-for at-if1)
 
 same-length : tie.Need-same-length
 same-length c = search needs
@@ -87,7 +90,9 @@ returns-2 c =
     (at-put-digits .put-digits .ensures)
 
 add-out : tie.Need-add-out
-add-out c = let at-if1 = c .before .before .before .before .before in omega (arith, room-for at-if1)
+add-out c =
+    let at-if1 = c .before .before .before .before .before in
+    omega (arith, room-for at-if1)
 
 slice-write-out : tie.Need-slice-write-out
 slice-write-out c =
@@ -103,11 +108,14 @@ slice-write-out c =
     )
 
 add-put-digits : tie.Need-add-put-digits
-add-put-digits c = let at-if1 = c .before .before .before .before .before .before in omega (arith, room-for at-if1)
+add-put-digits c =
+    let at-if1 = c .before .before .before .before .before .before in
+    omega (arith, room-for at-if1)
 
 add-put-digits-2 : tie.Need-add-put-digits-2
 add-put-digits-2 c =
-    let at-if1 = c .before .before .before .before .before .before in omega (arith, room-for at-if1, tail-is (c .before))
+    let at-if1 = c .before .before .before .before .before .before in
+    omega (arith, room-for at-if1, tail-is (c .before))
 
 put-digits-requires-2 : tie.Need-put-digits-requires-2
 put-digits-requires-2 c κs =
@@ -128,7 +136,8 @@ put-digits-requires-2 c κs =
 
 add-result-2 : tie.Need-add-result-2
 add-result-2 c =
-    let at-if1 = c .before .before .before .before .before .before .before .before .before in omega (arith, room-for at-if1)
+    let at-if1 = c .before .before .before .before .before .before .before .before .before in
+    omega (arith, room-for at-if1)
 
 same-length-2 : tie.Need-same-length-2
 same-length-2 c =

@@ -2,8 +2,9 @@
 use borrow.Author.Needs.{needs}
 use Rattle.numerals.proofs.digit_count.Statement.{statement}
 use Rattle.numerals.proofs.digit_count.Tie as tie
+use mathlib.Core.Path.{sym}
 use native.Mathlib.Omega.{arith}
-use Rattle.numerals.proofs.Sizes.{CutOff, cut-none, cut-more, cut-all}
+use Rattle.numerals.proofs.Sizes.{CutOff, cut-none, cut-more, cut-all, numeral-length}
 
 abbrev Inv-loop : tie.InvT-loop
 Inv-loop n count₀ rest₀ count rest = CutOff n rest count
@@ -27,8 +28,9 @@ loop-again c =
 
 returns : tie.Need-returns Inv-loop μ-loop
 returns c =
-    cut-all (c .before .before .args .n) (c .before .loop .rest) (c .before .loop .count) (c .before .loop .inv)
-    (c .loop-test .left)
+    let n = c .before .before .args .n in
+    sym (numeral-length n (c .before .loop .count) (omega arith) (cut-all n (c .before .loop .rest) (c .before .loop .count)
+    (c .before .loop .inv) (c .loop-test .left)))
 
 pub digit-count-spec : {M : Type 1} → statement M
 digit-count-spec =

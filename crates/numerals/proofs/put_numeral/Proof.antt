@@ -11,7 +11,7 @@ use native.Mathlib.Omega.{arith}
 use lib.Dec.{lit≤}
 use Prim.Native.Nat.{ℕ, _+_}
 use Rattle.fields.specs.Writing.{spliced}
-use Rattle.numerals.proofs.Sizes.{numeral-digits, numeral-length}
+use Rattle.numerals.proofs.Sizes.{numeral-digits, numeral-size}
 
 -- src/lib.rt:52:9
 digit-count-requires : tie.Need-digit-count-requires
@@ -22,7 +22,7 @@ put-digits-requires : tie.Need-put-digits-requires
 put-digits-requires c κs =
     let at-digit-count = c .before in
     let at-start = at-digit-count .before .before in
-    let l = numeral-length (at-start .args .n) (at-digit-count .digit-count .result) (omega arith) (at-digit-count .digit-count .ensures) in
+    let l = at-digit-count .digit-count .ensures in
     (lit≤ tt, lit≤ tt, omega (arith, l))
 
 -- src/lib.rt:54:5
@@ -30,7 +30,7 @@ add-result : tie.Need-add-result
 add-result c =
     let at-digit-count = c .before .before .before .before in
     let at-start = at-digit-count .before .before in
-    let l = numeral-length (at-start .args .n) (at-digit-count .digit-count .result) (omega arith) (at-digit-count .digit-count .ensures) in
+    let l = at-digit-count .digit-count .ensures in
     omega (arith, l)
 
 -- src/lib.rt:48:1
@@ -43,9 +43,10 @@ returns c =
     let at-digit-count = c .before .before .before .before in
     let given = at-digit-count .before .before .args in
     let k = at-digit-count .digit-count .result in
-    let s = at-digit-count .digit-count .ensures in (
-      c .before .before .put-digits .ensures ∙ ap (spliced (given .out .now) (given .at)) (sym (numeral-digits (given .n) k (omega arith) s)),
-      ap (λ (j : ℕ). given .at + j) (sym (numeral-length (given .n) k (omega arith) s)),
+    let e = at-digit-count .digit-count .ensures in (
+      c .before .before .put-digits .ensures
+          ∙ ap (spliced (given .out .now) (given .at)) (sym (numeral-digits (given .n) k (omega arith) (numeral-size (given .n) k (omega arith) e))),
+      ap (λ (j : ℕ). given .at + j) e,
     )
 
 pub put-numeral-spec : {M : Type 1} → statement M
