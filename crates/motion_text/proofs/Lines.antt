@@ -19,7 +19,7 @@ use Rattle.motion.specs.Motions.{motionsIn}
 use Rattle.decimal.specs.Text.{numberText, Put}
 use Rattle.decimal.proofs.Floats.{numberText-short}
 use Rattle.text.proofs.Lines.{puts-puts}
-use Rattle.motion_text.specs.Lines.{changeWord, travelWord, sinkWord, millimetres, motionLine, motionLines, answerLines, linesAt}
+use Rattle.motion_text.specs.Lines.{changeWord, travelWord, sinkWord, millimetres, motionLine, motionLines, answerLines, linesAt, linesRoom}
 
 -- a blank, then a number that has room behind it
 pub millimetres-put : (old new : List ℕ) (at r : ℕ) (x : Float) → at + length (millimetres x) ≤ length old
@@ -49,7 +49,7 @@ line-length (Travel column row) =
     )
 line-length (Sink depth) = omega (arith, one-length sinkWord depth)
 
-lines-length : (m : Motions) → length (motionLines m) ≤ 320
+lines-length : (m : Motions) → length (motionLines m) ≤ linesRoom
 lines-length m =
     omega (
       arith,
@@ -63,17 +63,17 @@ lines-length m =
 -- ---- the lines of a plunge, by the answer that came
 
 module _ (f : List ℕ) (s : Scale) (i : ℕ) where
-  pub lines-asks : (m : Motions) (old : List ℕ) (at : ℕ) → at + 320 ≤ length old → at + length (motionLines m) ≤ length old
+  pub lines-asks : (m : Motions) (old : List ℕ) (at : ℕ) → at + linesRoom ≤ length old → at + length (motionLines m) ≤ length old
   lines-asks m old at h = omega (arith, lines-length m)
 
   pub lines-put : (m : Motions) (old new : List ℕ) (at r : ℕ) → Moves m ≡ motionsIn f i s → Puts old at (motionLines m) new r
-      → Puts old at (linesAt f s i) new r × (r ≤ at + 320)
+      → Puts old at (linesAt f s i) new r × (r ≤ at + linesRoom)
   unfolding linesAt
   lines-put m old new at r e p =
       (subst (λ (xs : List ℕ). Puts old at xs new r) (ap answerLines e) p, omega (arith, p .1, lines-length m))
 
   pub lines-none : (old : List ℕ) (at : ℕ) (a : MotionAnswer) → a ≡ motionsIn f i s → answerLines a ≡ []
-      → Puts old at (linesAt f s i) old at × (at ≤ at + 320)
+      → Puts old at (linesAt f s i) old at × (at ≤ at + linesRoom)
   unfolding linesAt
   lines-none old at a e n =
       (subst (λ (xs : List ℕ). Puts old at xs old at) (sym n ∙ ap answerLines e) (sym (splice-nil old at), omega arith), omega arith)

@@ -50,6 +50,10 @@ answerLines (NoMoves r) = []
 unfoldable pub linesAt : List ℕ → Scale → ℕ → List ℕ
 linesAt f s i = answerLines (motionsIn f i s)
 
+-- room for the lines of any plunge, in bytes
+abbrev pub linesRoom : ℕ
+linesRoom = 320
+
 -- the whole text: the lines of every plunge, in their order
 abbrev pub motionsText : List ℕ → Scale → List ℕ
 motionsText f s = gather (total f) 0 (linesAt f s)

@@ -13,7 +13,7 @@ ghost use Rattle.numerals.specs.Numerals.{Puts};
 ghost use Rattle.reading.specs.Reading.{total};
 ghost use Rattle.reading.specs.Steps.{JobOf};
 ghost use Rattle.text.specs.Pages.{PageOf};
-ghost use Rattle.motion_text.specs.Lines.{millimetres, motionLine, motionLines, linesAt};
+ghost use Rattle.motion_text.specs.Lines.{millimetres, motionLine, motionLines, linesAt, linesRoom};
 
 // Room for the three lines of a plunge.
 const LINES: usize = 320;
@@ -76,8 +76,8 @@ fn put_three(page: &mut [u8], at: usize, motions: Motions) -> usize
 
 // The lines of plunge number i of a readable file.
 fn put_lines(page: &mut [u8], at: usize, file: &[u8], job: Job, i: usize, scale: Scale) -> usize
-    requires { ⌜ JobOf (now file) job × (at + 320 ≤ length (now page)) ⌝ }
-    ensures { λ r. ⌜ Puts (now (page .entry)) at (linesAt (now (file .entry)) scale i) (now (page .exit)) r × (r ≤ at + 320) ⌝ }
+    requires { ⌜ JobOf (now file) job × (at + linesRoom ≤ length (now page)) ⌝ }
+    ensures { λ r. ⌜ Puts (now (page .entry)) at (linesAt (now (file .entry)) scale i) (now (page .exit)) r × (r ≤ at + linesRoom) ⌝ }
 {
     let answer = motion::motions_at(file, job, i, scale);
     match answer {
@@ -89,7 +89,7 @@ fn put_lines(page: &mut [u8], at: usize, file: &[u8], job: Job, i: usize, scale:
 // The lines of a readable file's plunges from one on, as many as the page has room for.
 pub fn put_page(page: &mut [u8], file: &[u8], job: Job, scale: Scale, from: usize) -> Page
     requires { ⌜ JobOf (now file) job × (from ≤ total (now file)) ⌝ }
-    ensures { λ r. ⌜ PageOf (linesAt (now (file .entry)) scale) (total (now (file .entry))) 320 from (now (page .entry)) (now (page .exit)) r × Counts
+    ensures { λ r. ⌜ PageOf (linesAt (now (file .entry)) scale) (total (now (file .entry))) linesRoom from (now (page .entry)) (now (page .exit)) r × Counts
         (r .used) (now (page .exit)) ⌝ }
 {
     let plunges = job.plunges;

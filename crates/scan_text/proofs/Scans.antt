@@ -36,7 +36,7 @@ use Rattle.jobs.specs.Calls.{listVerdict, ListCall}
 use Rattle.scan.specs.Scan.{byteIn, depths}
 use Rattle.text.specs.declared.Page.{Page}
 use Rattle.text.specs.Text.{refusalLine, listText, answerText}
-use Rattle.text.specs.Pages.{lineAt, lineCount, PageOf}
+use Rattle.text.specs.Pages.{lineAt, lineCount, lineRoom, PageOf}
 use Rattle.text.proofs.Pages.{page-whole}
 use Rattle.scan_text.specs.Program.{fileBuffer, mostCells, textRoom, plateIn, plungesOf, listLength, scanVerdict, plungesText}
 use Rattle.scan_text.specs.Listed.{ListedFile}
@@ -161,7 +161,7 @@ module _ (s file : List ℕ) (n : ℕ) (f : ListedFile s file n) where
       })
 
   pub text-put : (bytes : (i : ℕ) → getD file i 0 < 256) (old new : List ℕ) (r : Page) → textRoom ≤ length old
-      → PageOf (lineAt file) (lineCount file) 32 0 old new r → Puts old 0 (listText (plateIn s) (plungesOf s)) new (r .used)
+      → PageOf (lineAt file) (lineCount file) lineRoom 0 old new r → Puts old 0 (listText (plateIn s) (plungesOf s)) new (r .used)
   text-put bytes old new r h p =
       subst (λ (xs : List ℕ). Puts old 0 xs new (r .used))
       (ap₂ listText (ap headIn (f .bytes) ∙ encoded-head (plateIn s) (plungesOf s)) (ap plungesIn (f .bytes) ∙ encoded-plunges (plateIn s) (plungesOf s)))

@@ -12,6 +12,7 @@ use Rattle.fields.specs.Fields.{fileLength}
 use Rattle.jobs.specs.Calls.{listed}
 use Rattle.scan.specs.Scan.{byteIn, depths}
 use Rattle.text.specs.Text.{answerText}
+use Rattle.text.specs.Pages.{lineRoom}
 
 -- "Its file buffer is 65,536 bytes."
 abbrev pub fileBuffer : ℕ
@@ -25,9 +26,9 @@ mostCells = largestSide * largestSide
 abbrev pub mostScan : ℕ
 mostScan = 3 + mostCells
 
--- 32 bytes for each line: 9,360 plunges have room in the file buffer, and two lines more
+-- room for each line: 9,360 plunges have room in the file buffer, and two lines more
 abbrev pub textRoom : ℕ
-textRoom = 32 * 9362
+textRoom = lineRoom * 9362
 
 -- "kind, width, height (a missing one counts as 0), then depths": the plate, and the plunges of the relief
 abbrev pub plateIn : List ℕ → Head

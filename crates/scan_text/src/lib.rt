@@ -22,7 +22,7 @@ pub const SCAN: usize = 3 + CELLS;
 const FILE: usize = 65536;
 
 // Room for the text of any scan: a line for each plunge that the file buffer has room for, and two more.
-pub const TEXT: usize = 32 * 9362;
+pub const TEXT: usize = text::LINE * 9362;
 
 fn file_buffer() -> [u8; FILE]
     ensures { λ r. ⌜ fileBuffer ≡ length r ⌝ }

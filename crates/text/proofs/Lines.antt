@@ -19,6 +19,7 @@ use Rattle.geometry.specs.Forms.{kindByte}
 use Rattle.io.specs.Counts.{Counts}
 use Rattle.numerals.specs.Numerals.{numeral, Puts}
 use Rattle.numerals.proofs.Sizes.{numeral-most, numeral-short}
+use Rattle.text.specs.Pages.{lineRoom}
 use Rattle.text.specs.Text.{word, plateWord, totalWord, refusedWord, plateLine, plungeLine, totalLine}
 
 pub counts : (n : ℕ) (l : List ℕ) → n ≤ length l → Counts n l
@@ -127,14 +128,14 @@ refusal-room number place page h =
       numeral-most place,
     )
 
-pub total-room : (n : ℕ) → length (totalLine n) ≤ 32
+pub total-room : (n : ℕ) → length (totalLine n) ≤ lineRoom
 total-room n = omega (arith, length-append totalWord (word n 10), word-length n 10, numeral-most n)
 
 -- a word of a number below 65536 has six characters at most
 word-short : (n mark : ℕ) → n < 65536 → length (word n mark) ≤ 6
 word-short n mark h = omega (arith, word-length n mark, numeral-short 4 n (omega arith))
 
-pub plunge-room : (q : Plunge) → q .column < 65536 → q .row < 65536 → q .reach .0 < 65536 → q .depth < 65536 → length (plungeLine q) ≤ 32
+pub plunge-room : (q : Plunge) → q .column < 65536 → q .row < 65536 → q .reach .0 < 65536 → q .depth < 65536 → length (plungeLine q) ≤ lineRoom
 plunge-room q c r k d =
     omega (
       arith,
@@ -147,7 +148,7 @@ plunge-room q c r k d =
       word-short (q .depth) 10 d,
     )
 
-pub plate-room : (p : Head) → p .width < 65536 → p .height < 65536 → length (plateLine p) ≤ 32
+pub plate-room : (p : Head) → p .width < 65536 → p .height < 65536 → length (plateLine p) ≤ lineRoom
 plate-room p w h =
     omega (
       arith,

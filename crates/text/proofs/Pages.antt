@@ -20,7 +20,7 @@ use Rattle.reading.specs.Reading.{IsReadable, headIn, total, nthPlunge, plunges
 use Rattle.reading.proofs.Readable.{length-plungesIn}
 use Rattle.text.specs.declared.Page.{Page}
 use Rattle.text.specs.Text.{plateLine, plungeLine, plungeLines, totalLine, listText}
-use Rattle.text.specs.Pages.{lineAt, lineCount, PageOf}
+use Rattle.text.specs.Pages.{lineAt, lineCount, lineRoom, PageOf}
 use Rattle.text.proofs.Lines.{puts-puts, puts-length, plate-room, plunge-room, total-room}
 
 -- ---- lines by their numbers
@@ -39,11 +39,11 @@ module _ (f : List ℕ) (i : ℕ) where
   line-total l = let e : i ≡ 0 → ⊥ = λ z. omega arith in rw (ne-eqb i 0 e, lt-leb i (total f) l)
 
   -- every line has room
-  pub line-room : IsReadable f → ((k : ℕ) → getD f k 0 < 256) → length (lineAt f i) ≤ 32
+  pub line-room : IsReadable f → ((k : ℕ) → getD f k 0 < 256) → length (lineAt f i) ≤ lineRoom
   unfolding lineAt
   line-room ok bytes = go (eqb i 0) (leb i (total f))
     where
-      go : (a b : Bool) → length (cond a (plateLine (headIn f)) (cond b (plungeLine (nthPlunge f (i - 1))) (totalLine (total f)))) ≤ 32
+      go : (a b : Bool) → length (cond a (plateLine (headIn f)) (cond b (plungeLine (nthPlunge f (i - 1))) (totalLine (total f)))) ≤ lineRoom
       go true b = plate-room (headIn f) (omega (arith, bytes 4)) (omega (arith, bytes 5))
       go false true =
           plunge-room (nthPlunge f (i - 1)) (omega (arith, bytes (place (headIn f) (i - 1) + 3))) (omega (arith, bytes (place (headIn f) (i - 1) + 4)))
@@ -52,12 +52,12 @@ module _ (f : List ℕ) (i : ℕ) where
 
 -- a line that was put, by what it is
 pub line-put : (f : List ℕ) (i : ℕ) (xs old new : List ℕ) (at r : ℕ) → IsReadable f → ((k : ℕ) → getD f k 0 < 256) → xs ≡ lineAt f i → Puts old at xs new r
-    → Puts old at (lineAt f i) new r × (r ≤ at + 32)
+    → Puts old at (lineAt f i) new r × (r ≤ at + lineRoom)
 line-put f i xs old new at r ok bytes e p =
     let q : Puts old at (lineAt f i) new r = subst (λ (l : List ℕ). Puts old at l new r) e p in
     (q, omega (arith, q .1, line-room f i ok bytes))
 
-pub line-asks : (f : List ℕ) (i : ℕ) (xs old : List ℕ) (at : ℕ) → IsReadable f → ((k : ℕ) → getD f k 0 < 256) → xs ≡ lineAt f i → at + 32 ≤ length old
+pub line-asks : (f : List ℕ) (i : ℕ) (xs old : List ℕ) (at : ℕ) → IsReadable f → ((k : ℕ) → getD f k 0 < 256) → xs ≡ lineAt f i → at + lineRoom ≤ length old
     → at + length xs ≤ length old
 line-asks f i xs old at ok bytes e h = omega (arith, ap length e, line-room f i ok bytes)
 
@@ -145,14 +145,14 @@ lines-text f =
         pred j = omega arith
 
 -- a page with room for every line holds them all
-pub page-whole : (f old new : List ℕ) (r : Page) → IsReadable f → ((k : ℕ) → getD f k 0 < 256) → 32 * lineCount f ≤ length old
-    → PageOf (lineAt f) (lineCount f) 32 0 old new r → Puts old 0 (listText (headIn f) (plungesIn f)) new (r .used)
+pub page-whole : (f old new : List ℕ) (r : Page) → IsReadable f → ((k : ℕ) → getD f k 0 < 256) → lineRoom * lineCount f ≤ length old
+    → PageOf (lineAt f) (lineCount f) lineRoom 0 old new r → Puts old 0 (listText (headIn f) (plungesIn f)) new (r .used)
 page-whole f old new r ok bytes h p =
     subst (λ (xs : List ℕ). Puts old 0 xs new (r .used)) (ap (λ (n : ℕ). gather n 0 (lineAt f)) all ∙ lines-text f)
     (p .bytes, p .used ∙ sym (zero-add _))
   where
-    few : r .used ≤ (r .next - 0) * 32
-    few = subst (λ (n : ℕ). n ≤ (r .next - 0) * 32) (sym (p .used)) (gather-few (lineAt f) 32 (λ j. line-room f j ok bytes) (r .next - 0) 0)
+    few : r .used ≤ (r .next - 0) * lineRoom
+    few = subst (λ (n : ℕ). n ≤ (r .next - 0) * lineRoom) (sym (p .used)) (gather-few (lineAt f) lineRoom (λ j. line-room f j ok bytes) (r .next - 0) 0)
 
     all : r .next - 0 ≡ lineCount f
     all = go (decLe (lineCount f) (r .next))

@@ -18,6 +18,10 @@ lineAt f i = cond (eqb i 0) (plateLine (headIn f)) (cond (leb i (total f)) (plun
 abbrev pub lineCount : List ℕ → ℕ
 lineCount f = total f + 2
 
+-- room for any line, in bytes
+abbrev pub lineRoom : ℕ
+lineRoom = 32
+
 -- a page of a text in so many parts: it holds the parts from one on to before the next, in their order and nothing else, and all that are left if the next
 -- would have had room
 pub record PageOf (part : ℕ → List ℕ) (parts room from : ℕ) (old new : List ℕ) (r : Page) : Type 0 where

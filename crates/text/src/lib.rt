@@ -10,7 +10,7 @@ ghost use Rattle.io.specs.Counts.{Counts};
 ghost use Rattle.numerals.specs.Numerals.{Puts};
 ghost use Rattle.reading.specs.Steps.{JobOf};
 ghost use Rattle.text.specs.Text.{word, plateLine, plungeLine, totalLine, refusalLine, tidyLine};
-ghost use Rattle.text.specs.Pages.{lineAt, lineCount, PageOf};
+ghost use Rattle.text.specs.Pages.{lineAt, lineCount, lineRoom, PageOf};
 
 // Room for any line of a list's text.
 pub const LINE: usize = 32;
@@ -102,8 +102,8 @@ pub fn put_tidy(page: &mut [u8]) -> usize
 
 // Line i of the text of a readable file.
 fn put_line(page: &mut [u8], at: usize, file: &[u8], job: Job, i: usize) -> usize
-    requires { ⌜ JobOf (now file) job × (at + 32 ≤ length (now page)) ⌝ }
-    ensures { λ r. ⌜ Puts (now (page .entry)) at (lineAt (now (file .entry)) i) (now (page .exit)) r × (r ≤ at + 32) ⌝ }
+    requires { ⌜ JobOf (now file) job × (at + lineRoom ≤ length (now page)) ⌝ }
+    ensures { λ r. ⌜ Puts (now (page .entry)) at (lineAt (now (file .entry)) i) (now (page .exit)) r × (r ≤ at + lineRoom) ⌝ }
 {
     if i == 0 {
         return put_plate(page, at, job.head);
@@ -118,7 +118,7 @@ fn put_line(page: &mut [u8], at: usize, file: &[u8], job: Job, i: usize) -> usiz
 // The lines of the text of a readable file from one on, as many as the page has room for.
 pub fn put_page(page: &mut [u8], file: &[u8], job: Job, from: usize) -> Page
     requires { ⌜ JobOf (now file) job × (from ≤ lineCount (now file)) ⌝ }
-    ensures { λ r. ⌜ PageOf (lineAt (now (file .entry))) (lineCount (now (file .entry))) 32 from (now (page .entry)) (now (page .exit)) r × Counts
+    ensures { λ r. ⌜ PageOf (lineAt (now (file .entry))) (lineCount (now (file .entry))) lineRoom from (now (page .entry)) (now (page .exit)) r × Counts
         (r .used) (now (page .exit)) ⌝ }
 {
     let plunges = job.plunges;

@@ -8,7 +8,7 @@ use mathlib.Core.Path.{_∙_}
 use native.Mathlib.Omega.{arith}
 use Prim.Native.Nat.{_+_, _-_}
 use Rattle.reading.specs.Reading.{total}
-use Rattle.motion_text.specs.Lines.{linesAt}
+use Rattle.motion_text.specs.Lines.{linesAt, linesRoom}
 use Rattle.text.proofs.Lines.{counts}
 use Rattle.text.proofs.Pages.{Filled, filled-none, filled-more, filled-page}
 use Rattle.motion_text.proofs.put_lines.Reads as put-lines-reads
@@ -42,7 +42,7 @@ returns c =
     let f = given .file .now in
     let w = at-start .pre .0 in
     let at-loop = c .before .before in (
-      filled-page (linesAt f (given .scale)) (total f) (given .from) (given .page .now) 320 (at-loop .loop .page) (at-loop .loop .used) (at-loop .loop .next)
+      filled-page (linesAt f (given .scale)) (total f) (given .from) (given .page .now) linesRoom (at-loop .loop .page) (at-loop .loop .used) (at-loop .loop .next)
           (at-loop .loop .inv) (λ h. omega (arith, c .if1 .taken, at-loop .loop .inv .same, at-loop .loop .inv .fits)),
       counts (at-loop .loop .used) (at-loop .loop .page) (omega (arith, at-loop .loop .inv .same, at-loop .loop .inv .fits)),
     )
@@ -95,7 +95,7 @@ returns-2 c =
     let f = given .file .now in
     let w = at-start .pre .0 in
     let at-loop = c .before in (
-      filled-page (linesAt f (given .scale)) (total f) (given .from) (given .page .now) 320 (at-loop .loop .page) (at-loop .loop .used) (at-loop .loop .next)
+      filled-page (linesAt f (given .scale)) (total f) (given .from) (given .page .now) linesRoom (at-loop .loop .page) (at-loop .loop .used) (at-loop .loop .next)
           (at-loop .loop .inv) (λ h. absurd (omega (arith, c .loop-test .left, w .plunges, h))),
       counts (at-loop .loop .used) (at-loop .loop .page) (omega (arith, at-loop .loop .inv .same, at-loop .loop .inv .fits)),
     )

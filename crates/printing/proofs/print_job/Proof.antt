@@ -8,7 +8,7 @@ use mathlib.Core.Path.{_≡_}
 use Prim.Native.Nat.{_-_, _≤_}
 use native.Mathlib.Omega.{arith}
 use lib.ListN.{length}
-use Rattle.text.specs.Pages.{lineAt, lineCount}
+use Rattle.text.specs.Pages.{lineAt, lineCount, lineRoom}
 use Rattle.text.proofs.Pages.{page-goes-on}
 use Rattle.io.proofs.large_buffer.Reads as large-buffer-reads
 use Rattle.io.proofs.write_all.Reads as write-all-reads
@@ -60,7 +60,7 @@ loop-less c =
     let put = at-put-page .«put-page» in
     let f = at-start .args .file .now in
     let on =
-    page-goes-on (lineAt f) (lineCount f) 32 (at-loop .loop .next) (at-loop .loop .page) (put .last .0) (put .result)
+    page-goes-on (lineAt f) (lineCount f) lineRoom (at-loop .loop .next) (at-loop .loop .page) (put .last .0) (put .result)
     (put .ensures .0) (omega (arith, at-start .pre .plunges, at-loop-test .loop-test .taken))
     (omega (arith, at-loop .loop .inv .1)) in
     omega (arith, on, put .ensures .0 .within)

@@ -7,7 +7,7 @@ use Rattle.text.proofs.put_page.Lts as lts
 use mathlib.Core.Path.{_∙_}
 use native.Mathlib.Omega.{arith}
 use Prim.Native.Nat.{_+_, _-_}
-use Rattle.text.specs.Pages.{lineAt, lineCount}
+use Rattle.text.specs.Pages.{lineAt, lineCount, lineRoom}
 use Rattle.text.proofs.Lines.{counts}
 use Rattle.text.proofs.Pages.{Filled, filled-none, filled-more, filled-page}
 use Rattle.text.proofs.put_line.Reads as put-line-reads
@@ -46,7 +46,7 @@ returns c =
     let f = given .file .now in
     let w = at-start .pre .0 in
     let at-loop = c .before .before in (
-      filled-page (lineAt f) (lineCount f) (given .from) (given .page .now) 32 (at-loop .loop .page) (at-loop .loop .used) (at-loop .loop .next)
+      filled-page (lineAt f) (lineCount f) (given .from) (given .page .now) lineRoom (at-loop .loop .page) (at-loop .loop .used) (at-loop .loop .next)
           (at-loop .loop .inv) (λ h. omega (arith, c .if1 .taken, at-loop .loop .inv .same, at-loop .loop .inv .fits)),
       counts (at-loop .loop .used) (at-loop .loop .page) (omega (arith, at-loop .loop .inv .same, at-loop .loop .inv .fits)),
     )
@@ -99,7 +99,7 @@ returns-2 c =
     let f = given .file .now in
     let w = at-start .pre .0 in
     let at-loop = c .before in (
-      filled-page (lineAt f) (lineCount f) (given .from) (given .page .now) 32 (at-loop .loop .page) (at-loop .loop .used) (at-loop .loop .next)
+      filled-page (lineAt f) (lineCount f) (given .from) (given .page .now) lineRoom (at-loop .loop .page) (at-loop .loop .used) (at-loop .loop .next)
           (at-loop .loop .inv) (λ h. absurd (omega (arith, c .loop-test .left, w .plunges, h))),
       counts (at-loop .loop .used) (at-loop .loop .page) (omega (arith, at-loop .loop .inv .same, at-loop .loop .inv .fits)),
     )

@@ -9,7 +9,7 @@ use Prim.Native.Nat.{_-_, _≤_}
 use native.Mathlib.Omega.{arith}
 use lib.ListN.{length}
 use Rattle.reading.specs.Reading.{total}
-use Rattle.motion_text.specs.Lines.{linesAt}
+use Rattle.motion_text.specs.Lines.{linesAt, linesRoom}
 use Rattle.text.proofs.Pages.{page-goes-on}
 use Rattle.io.proofs.large_buffer.Reads as large-buffer-reads
 use Rattle.io.proofs.write_all.Reads as write-all-reads
@@ -56,7 +56,7 @@ loop-less c =
     let put = at-put-page .«put-page» in
     let f = at-start .args .file .now in
     let on =
-    page-goes-on (linesAt f (at-start .args .scale)) (total f) 320 (at-loop .loop .next) (at-loop .loop .page)
+    page-goes-on (linesAt f (at-start .args .scale)) (total f) linesRoom (at-loop .loop .next) (at-loop .loop .page)
     (put .last .0) (put .result) (put .ensures .0)
     (omega (arith, at-start .pre .plunges, at-loop-test .loop-test .taken)) (omega (arith, at-loop .loop .inv .1)) in
     omega (arith, on, put .ensures .0 .within)
