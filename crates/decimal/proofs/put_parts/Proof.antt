@@ -20,7 +20,12 @@ measured : (c : tie.After-tail-length) →
     let given = c .before .before .before .args in
     Measured (given .whole) (given .d) (c .before .digit-count .result) (c .tail-length .result)
 measured c =
-    record { bound = omega arith; sized = numeral-size (c .before .before .before .args .whole) (c .before .digit-count .result) (omega arith) (c .before .digit-count .ensures); tailed = c .tail-length .ensures }
+    let whole = c .before .before .before .args .whole in
+    record {
+      bound = omega arith;
+      sized = numeral-size whole (c .before .digit-count .result) (omega arith) (c .before .digit-count .ensures);
+      tailed = c .tail-length .ensures;
+    }
 
 room-for : (c : tie.Else1) →
     let at-digit-count = c .before .before .before in
@@ -53,7 +58,7 @@ add-total c =
     let at-start = c .before .before .before in
     omega (
       arith,
-      size-most 20 (at-start .args .whole) (c .before .digit-count .result) (lit< tt) (numeral-size (at-start .args .whole) (c .before .digit-count .result) (omega arith) (c .before .digit-count .ensures)) (omega arith),
+      size-most 20 (at-start .args .whole) (c .before .digit-count .result) (lit< tt) (measured c .sized) (omega arith),
       tail-most (c .tail-length .result) (at-start .args .d .count) (c .tail-length .ensures) (at-start .pre),
     )
 
