@@ -20,7 +20,6 @@ use Rattle.listing_pass.specs.declared.Pass.{Pass}
 use Rattle.listing_pass.specs.declared.Pass.the-variants.{Write, Stage}
 use Rattle.listing_pass.specs.declared.Progress.{Progress}
 use Rattle.listing_pass.specs.Sent.{Sent}
-use Rattle.listing_plunges.proofs.Plunges.{listedReach, listing-reaches}
 use Rattle.listing.specs.declared.ListAnswer.the-variants.{Listed, Unlisted}
 use Rattle.listing.specs.Staging.{stageLength, KeptPlunges, ListedInto}
 

@@ -1,4 +1,3 @@
 pub mod Plunges
 pub mod Marks
-pub mod Erosions
-pub mod Runs
+pub mod Listings

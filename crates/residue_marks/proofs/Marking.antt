@@ -1,116 +1,162 @@
--- Laws of marks: nothing yet, one more, one stretch after another, stretches without a mark, and where the nine bytes about a place are a cell's window.
-use mathlib.Core.Path.{_≡_, ap, subst}
+-- Laws of sweeps: nothing yet, one place more, the same by other names; the windows of a map that is 0 along its border; stretches without a mark.
+use mathlib.Core.Path.{_≡_, refl, sym, ap, ap₂, _∙_, subst}
 use mathlib.Core.Bool.{Bool, true, false, cond}
-use mathlib.Core.List.{List}
-use Prim.Native.Nat.{ℕ, zero, suc, _+_, _*_, _-_, _≤_, _<_}
+use mathlib.Core.List.{List, [], _∷_}
+use Prim.Native.Nat.{ℕ, zero, suc, _+_, _*_, _-_, _%_, _/_, _≤_, _<_, max}
 use native.Mathlib.Omega.{arith}
 use native.Mathlib.Decide.{decLe}
+use native.Mathlib.Nat.{suc-mul, mul-le-mul-right, mod-lt, div-add-mod', div-lt-iff-lt-mul}
 use native.Mathlib.Numerals.{add-one}
-use borrow.Author.Tests.{le-ltb}
+use borrow.Author.Tests.{lt-ltb, le-ltb}
 use lib.Bits.{bitOr, or-add-and, and-le-l, and-le-r}
-use lib.Dec.{ltb}
+use lib.Dec.{eqb, ltb}
 use lib.ListN.{length, getD, set}
+use lib.Seq.{getD-set-same, getD-set-other}
 use Rattle.geometry.specs.declared.Head.{Head}
-use Rattle.geometry.specs.Plane.{cell}
-use Rattle.geometry.specs.Plate.{at}
-use Rattle.theory.specs.Erosion.{highestNear}
-use Rattle.window.specs.Windows.{windowMax}
-use Rattle.window.specs.Places.{windowIn, Inner}
-use Rattle.window.proofs.Windows.{interior-max-near}
-use Rattle.buffers.proofs.Fill.{filled-none, filled-more, filled-as, filled-on}
-use Rattle.refusal.specs.Refusals.{largestSide}
-use Rattle.residue_marks.specs.Marks.{markPlaces, runLength, markOf, markAt, markNear, tally, Marked, Unmarked}
+use Rattle.geometry.specs.Plane.{Cell, cell, west, east, north, south}
+use Rattle.geometry.specs.Plate.{area, at}
+use Rattle.theory.proofs.Plate.{at-cell}
+use Rattle.window.specs.Windows.{windowOf, windowMin, windowMax}
+use Rattle.window.specs.Places.{windowIn}
+use Rattle.window.proofs.Windows.{three, window-min-near, window-max-near}
+use Rattle.buffers.specs.Margin.{Margin}
+use Rattle.buffers.specs.Fill.{Filled}
+use Rattle.buffers.proofs.Fill.{filled-none, filled-more, filled-as}
+use Rattle.residue_marks.specs.Marks.{markOf, counted, placeCell, lowIn, highIn, lowNear, highNear, tally, marksOf, Sweep, Unmarked}
 
--- ---- the length of a run
+-- ---- sweeps
 
--- The count of a run's marks is a byte; an array of marks holds a run; and a row of any plate is a run. The last is what plates with
--- larger sides will have to change.
-pub record RunFits : Type 0 where
-  pub counted : runLength ≤ 255
-  pub held : runLength ≤ markPlaces
-  pub rows : largestSide ≤ runLength
+-- a place of a plate lies in one of its rows
+pub place-row : (n w h : ℕ) → 1 ≤ w → n < h * w → n / w < h
+place-row n w h a b = div-lt-iff-lt-mul a .1 b
 
-pub run-fits : RunFits
-run-fits = record { counted = omega arith; held = omega arith; rows = omega arith }
-
--- ---- one mark
-
-pub mark-small : (a b : ℕ) → markOf a b ≤ 1
-mark-small a b = go (ltb b a)
+pub counted-small : (v : ℕ) → counted v ≤ 1
+counted-small v = go (eqb v 0)
   where
-    go : (t : Bool) → cond t 1 0 ≤ 1
+    go : (t : Bool) → cond t 0 1 ≤ 1
     go true = omega arith
     go false = omega arith
 
--- of a number that is 0 nothing is left
-pub mark-zero : (a b : ℕ) → a ≡ 0 → markOf a b ≡ 0
-mark-zero a b e = let g : a ≤ b = omega arith in rw (le-ltb _ _ g)
+module _ (low high : ℕ → ℕ) (start : ℕ) (prev marks : List ℕ) where
+  pub sweep-none : Sweep low high start 0 prev prev marks marks 0 0
+  sweep-none =
+      let k : start ≡ start + 0 = omega arith in
+      record {
+        next = subst (λ (n : ℕ). Filled low start n prev prev) k (filled-none low start prev);
+        marked = filled-none _ 0 marks;
+        counts = refl;
+        few = omega arith;
+        under = λ n a b. absurd (omega arith);
+      }
 
--- inside the border the nine bytes about a place are the cell's window
-pub near-inside : (p : Head) (prev cur : List ℕ) (x y : ℕ) → 1 ≤ x → x + 1 < p .width → 1 ≤ y → y + 1 < p .height
-    → markNear (p .kind) (p .width) prev cur (y * p .width + x) ≡ markAt p prev cur y x
-near-inside p prev cur x y a b c d =
-    ap (markOf (getD prev (y * p .width + x) 0)) (interior-max-near p cur x y a b c d)
+  -- one place more
+  pub sweep-more : (i v l u t top : ℕ) (prev′ marks′ : List ℕ) (count : ℕ) → Sweep low high start i prev prev′ marks marks′ count top
+      → start + i < length prev → i < length marks → v ≡ markOf (getD prev′ (start + i) 0) (high (start + i)) → l ≡ low (start + i)
+      → u ≡ counted v → t ≡ max top l
+      → Sweep low high start (i + 1) prev (set prev′ (start + i) l) marks (set marks′ i v) (count + u) t
+  sweep-more i v l u t top prev′ marks′ count s a b e g o q =
+      let here : getD prev′ (start + i) 0 ≡ getD prev (start + i) 0 = s .next .over (start + i) (omega arith) in
+      let is : v ≡ marksOf high start prev i = e ∙ ap (λ (d : ℕ). markOf d (high (start + i))) here in
+      let k : start + i + 1 ≡ start + (i + 1) = omega arith in
+      record {
+        next = subst (λ (n : ℕ). Filled low start n prev (set prev′ (start + i) l)) k
+            (filled-more low start (start + i) l prev prev′ (s .next) (omega arith) a g);
+        marked = filled-more _ 0 i v marks marks′ (s .marked) (omega arith) b is;
+        counts = omega (arith, s .counts, o, ap counted is, ap (tally (marksOf high start prev)) (add-one i));
+        few = omega (arith, s .few, counted-small v, o);
+        under = λ n c d. in-turn n c d (decLe (start + i) n);
+      }
+    where
+      in-turn : (n : ℕ) → start ≤ n → n < start + (i + 1) → Dec (start + i ≤ n) → getD (set prev′ (start + i) l) n 0 ≤ t
+      in-turn n c d (yes h) = let k : n ≡ start + i = omega arith in
+          rw k (omega (arith, getD-set-same prev′ (start + i) l 0 (omega (arith, s .next .same))))
+      in-turn n c d (no h) = omega (arith, getD-set-other prev′ (start + i) n l 0 (omega arith), s .under n c (omega arith))
 
--- marks are 0 or 1, and 0 where the first map is 0
-module _ (p : Head) (prev cur : List ℕ) where
-  pub at-small : (x y : ℕ) → markAt p prev cur y x ≤ 1
-  at-small x y = mark-small (getD prev (y * p .width + x) 0) (highestNear (p .kind) (at p cur) (cell x y))
+  pub sweep-end : (i number count top : ℕ) (prev′ marks′ : List ℕ) → i ≤ number → number ≤ i → Sweep low high start i prev prev′ marks marks′ count top
+      → Sweep low high start number prev prev′ marks marks′ count top
+  sweep-end i number count top prev′ marks′ a b s =
+      let k : i ≡ number = omega arith in subst (λ (j : ℕ). Sweep low high start j prev prev′ marks marks′ count top) k s
 
-  pub at-zero : (x y : ℕ) → getD prev (y * p .width + x) 0 ≡ 0 → markAt p prev cur y x ≡ 0
-  at-zero x y e = mark-zero (getD prev (y * p .width + x) 0) (highestNear (p .kind) (at p cur) (cell x y)) e
-
-  pub near-small : (n : ℕ) → markNear (p .kind) (p .width) prev cur n ≤ 1
-  near-small n = mark-small (getD prev n 0) (windowMax (p .kind) (windowIn cur (p .width) n))
-
-  pub near-zero : (n : ℕ) → getD prev n 0 ≡ 0 → markNear (p .kind) (p .width) prev cur n ≡ 0
-  near-zero n e = mark-zero (getD prev n 0) (windowMax (p .kind) (windowIn cur (p .width) n)) e
-
--- ---- stretches of marks
-
-pub marked-none : (f : ℕ → ℕ) (from : ℕ) (old : List ℕ) → Marked f from from old old 0
-marked-none f from old = record { filled = filled-none f from old; count = omega arith; few = omega arith }
-
--- one mark more
-pub marked-more : (f : ℕ → ℕ) (from x v r : ℕ) (old mid : List ℕ) → Marked f from x old mid r → from ≤ x → x < length old → v ≡ f x → v ≤ 1
-    → Marked f from (x + 1) old (set mid x v) (r + v)
-marked-more f from x v r old mid m h l e s =
-    record {
-      filled = filled-more f from x v old mid (m .filled) h l e;
-      count = omega (arith, m .count, ap (tally f) (add-one x));
-      few = omega (arith, m .few);
-    }
-
--- at a loop's end the column reached is the column meant
-pub marked-end : (f : ℕ → ℕ) (from x to r : ℕ) (old new : List ℕ) → x ≤ to → to ≤ x → Marked f from x old new r → Marked f from to old new r
-marked-end f from x to r old new a b m = let k : x ≡ to = omega arith in subst (λ (j : ℕ). Marked f from j old new r) k m
+tally-as : (f g : ℕ → ℕ) (n : ℕ) → ((i : ℕ) → i < n → f i ≡ g i) → tally f n ≡ tally g n
+tally-as f g zero e = refl
+tally-as f g (suc n) e = ap₂ (λ (t v : ℕ). t + counted v) (tally-as f g n (λ i h. e i (omega arith))) (e n (omega arith))
 
 -- the same with other numbers that agree
-tally-as : (f g : ℕ → ℕ) (from n : ℕ) → ((x : ℕ) → from ≤ x → x < from + n → f x ≡ g x) → tally f (from + n) + tally g from ≡ tally g (from + n) + tally f from
-tally-as f g from zero e = let k : from + 0 ≡ from = omega arith in rw k (omega arith)
-tally-as f g from (suc n) e =
-    let k : from + suc n ≡ suc (from + n) = omega arith in
-    rw k (omega (arith, tally-as f g from n (λ x a b. e x a (omega arith)), e (from + n) (omega arith) (omega arith)))
-
-pub marked-as : (f g : ℕ → ℕ) (from to : ℕ) (old new : List ℕ) (r : ℕ) → from ≤ to → Marked f from to old new r
-    → ((x : ℕ) → from ≤ x → x < to → f x ≡ g x) → Marked g from to old new r
-marked-as f g from to old new r h m e =
-    let k : from + (to - from) ≡ to = omega arith in
+pub sweep-as : (low high low′ high′ : ℕ → ℕ) (start number : ℕ) (prev prev′ marks marks′ : List ℕ) (count top : ℕ)
+    → Sweep low high start number prev prev′ marks marks′ count top
+    → ((n : ℕ) → start ≤ n → n < start + number → (low n ≡ low′ n) × (high n ≡ high′ n))
+    → Sweep low′ high′ start number prev prev′ marks marks′ count top
+sweep-as low high low′ high′ start number prev prev′ marks marks′ count top s e =
     record {
-      filled = filled-as f g from to old new (m .filled) e;
-      count = omega (arith, m .count, rw k at (tally-as f g from (to - from) (λ x a b. e x a (omega arith))));
-      few = m .few;
+      next = filled-as low low′ start (start + number) prev prev′ (s .next) (λ n a b. e n a b .0);
+      marked = filled-as _ _ 0 number marks marks′ (s .marked) (λ i a b. same i (omega arith));
+      counts = s .counts ∙ tally-as _ _ number same;
+      few = s .few;
+      under = s .under;
     }
+  where
+    same : (i : ℕ) → i < number → marksOf high start prev i ≡ marksOf high′ start prev i
+    same i h = ap (markOf (getD prev (start + i) 0)) (e (start + i) (omega arith) (omega arith) .1)
 
--- a stretch, and then the next one
-pub marked-on : (f : ℕ → ℕ) (from mid to : ℕ) (old half new : List ℕ) (r s : ℕ) → from ≤ mid → mid ≤ to → Marked f from mid old half r
-    → Marked f mid to half new s → Marked f from to old new (r + s)
-marked-on f from mid to old half new r s a b m n =
-    record {
-      filled = filled-on f from mid to old half new a b (m .filled) (n .filled);
-      count = omega (arith, m .count, n .count);
-      few = omega (arith, m .few, n .few);
-    }
+-- ---- windows of a map that is 0 along its border
+
+module _ (p : Head) (m : List ℕ) (edge : Margin p 1 m) where
+  abbrev w : ℕ
+  w = p .width
+
+  -- three bytes side by side are three cells of a row: past an end of the row stands the other end of the next, which is 0
+  row-flat : (x y n : ℕ) → x < w → y < p .height → n ≡ y * w + x → 1 ≤ n → n + 1 < area p
+      → _≡_ {A = List ℕ} (getD m (n - 1) 0 ∷ getD m n 0 ∷ getD m (n + 1) 0 ∷ [])
+      (at p m (west (cell x y)) ∷ at p m (cell x y) ∷ at p m (east (cell x y)) ∷ [])
+  row-flat x y n a b e f g =
+      three (left x y a b e f) (ap (λ (i : ℕ). getD m i 0) e ∙ sym (at-cell p m x y a b)) (right (decLe (suc (suc x)) w))
+    where
+      left : (x y : ℕ) → x < w → y < p .height → n ≡ y * w + x → 1 ≤ n → getD m (n - 1) 0 ≡ at p m (west (cell x y))
+      left zero zero a b e f = absurd (omega arith)
+      left zero (suc y) a b e f =
+          let k : n - 1 ≡ y * w + (w - 1) = omega (arith, suc-mul y w) in
+          ap (λ (i : ℕ). getD m i 0) k ∙ edge .east (w - 1) y (omega arith) (omega arith) (omega arith)
+      left (suc x) y a b e f =
+          let k : n - 1 ≡ y * w + x = omega arith in
+          ap (λ (i : ℕ). getD m i 0) k ∙ sym (at-cell p m x y (omega arith) b)
+
+      right : Dec (suc (suc x) ≤ w) → getD m (n + 1) 0 ≡ at p m (east (cell x y))
+      right (yes h) =
+          let k : n + 1 ≡ y * w + suc x = omega arith in
+          ap (λ (i : ℕ). getD m i 0) k ∙ sym (at-cell p m (suc x) y h b)
+      right (no h) =
+          let k : n + 1 ≡ suc y * w + 0 = omega (arith, suc-mul y w) in
+          let l : w ≤ suc x = omega arith in
+          let z : at p m (cell (suc x) y) ≡ 0 = rw (le-ltb _ _ l) in
+          ap (λ (i : ℕ). getD m i 0) k ∙ edge .west 0 (suc y) (omega arith) (below (decLe (p .height) (suc y))) (omega arith) ∙ sym z
+        where
+          below : Dec (p .height ≤ suc y) → suc y < p .height
+          below (yes o) = absurd (omega (arith, mul-le-mul-right w o, suc-mul y w))
+          below (no o) = omega arith
+
+  -- so the nine bytes about a place are its cell's window
+  window-flat : (x y : ℕ) → x < w → y < p .height → w + 1 ≤ y * w + x → y * w + x + w + 1 < area p
+      → windowIn m w (y * w + x) ≡ windowOf p m (cell x y)
+  window-flat x zero a b f g = absurd (omega arith)
+  window-flat x (suc y) a b f g =
+      three
+      (row-flat x y (suc y * w + x - w) a (omega arith) (omega (arith, suc-mul y w)) (omega arith) (omega arith))
+      (row-flat x (suc y) (suc y * w + x) a b refl (omega arith) (omega arith))
+      (row-flat x (suc (suc y)) (suc y * w + x + w) a (below (decLe (p .height) (suc (suc y)))) (omega (arith, suc-mul (suc y) w)) (omega arith) (omega arith))
+    where
+      below : Dec (p .height ≤ suc (suc y)) → suc (suc y) < p .height
+      below (yes o) = absurd (omega (arith, mul-le-mul-right w o, suc-mul (suc y) w))
+      below (no o) = omega arith
+
+  -- the lowest and the highest of the nine bytes are those of the cell and its neighbours
+  pub flat-near : (n : ℕ) → 1 ≤ w → w + 1 ≤ n → n + w + 1 < area p → (lowIn (p .kind) w m n ≡ lowNear p m n) × (highIn (p .kind) w m n ≡ highNear p m n)
+  flat-near n pos f g =
+      let k : n / w * w + n % w ≡ n = div-add-mod' n w in
+      let same : windowIn m w n ≡ windowOf p m (placeCell w n) =
+      ap (windowIn m w) (sym k) ∙ window-flat (n % w) (n / w) (mod-lt n pos) (div-lt-iff-lt-mul pos .1 (omega arith)) (omega arith) (omega arith) in (
+        ap (windowMin (p .kind)) same ∙ window-min-near p m (placeCell w n),
+        ap (windowMax (p .kind)) same ∙ window-max-near p m (placeCell w n),
+      )
 
 -- ---- stretches without a mark
 
@@ -148,18 +194,3 @@ module _ (marks : List ℕ) (from : ℕ) where
 
   pub block-end : (i n all : ℕ) → i ≤ n → n ≤ i → (all ≡ 0 → Unmarked marks from (from + i)) → all ≡ 0 → Unmarked marks from (from + n)
   block-end i n all a b u z = let k : i ≡ n = omega arith in subst (λ (j : ℕ). Unmarked marks from (from + j)) k (u z)
-
--- ---- one row
-
--- a row's three parts: its first column, the run inside, its last column
-pub row-parts : (p : Head) (prev cur : List ℕ) (row : ℕ) (old first second new : List ℕ) (r s t : ℕ) → Inner p row
-    → Marked (markAt p prev cur row) 0 1 old first r
-    → Marked (λ x. markNear (p .kind) (p .width) prev cur (row * p .width + x)) 1 (p .width - 1) first second s
-    → Marked (markAt p prev cur row) (p .width - 1) (p .width) second new t
-    → Marked (markAt p prev cur row) 0 (p .width) old new (r + s + t)
-row-parts p prev cur row old first second new r s t i f g h =
-    let w = i .wide in
-    marked-on (markAt p prev cur row) 0 (p .width - 1) (p .width) old second new (r + s) t (omega arith) (omega arith)
-    (marked-on (markAt p prev cur row) 0 1 (p .width - 1) old first second r s (omega arith) (omega arith) f
-    (marked-as _ (markAt p prev cur row) 1 (p .width - 1) first second s (omega arith) g
-    (λ x c d. near-inside p prev cur x row c (omega arith) (i .first) (i .last)))) h

@@ -1,69 +1,87 @@
--- Serves proofs: marks of one row or one run of places: where a residue of two maps is above 0, how many there are, and which is next.
+-- Serves proofs: sweeps over places of two erosions: the marks, how many there are, the erosion that is written; and which mark is next.
 use mathlib.Core.Path.{_≡_}
 use mathlib.Core.Bool.{cond}
 use mathlib.Core.List.{List}
-use Prim.Native.Nat.{ℕ, zero, suc, _+_, _-_, _*_, _≤_, _<_}
-use lib.Dec.{ltb}
+use Prim.Native.Nat.{ℕ, zero, suc, _+_, _%_, _/_, _≤_, _<_}
+use lib.Dec.{eqb, ltb}
 use lib.ListN.{length, getD}
 use Rattle.geometry.specs.declared.Kind.{Kind}
 use Rattle.geometry.specs.declared.Head.{Head}
-use Rattle.geometry.specs.Plane.{cell}
+use Rattle.geometry.specs.Plane.{Cell, cell}
 use Rattle.geometry.specs.Plate.{area, at}
-use Rattle.window.specs.Windows.{windowMax}
+use Rattle.window.specs.Windows.{windowMin, windowMax}
 use Rattle.window.specs.Places.{windowIn}
+use Rattle.theory.specs.Near.{lowestNear}
 use Rattle.theory.specs.Erosion.{highestNear}
-use Rattle.refusal.specs.Refusals.{largestSide}
 use Rattle.buffers.specs.Fill.{Filled}
 use Rattle.buffers.specs.Runs.{Interior}
+use Rattle.residue_marks.specs.declared.Places.{Places}
 
--- the places of an array of marks, more than a row or a run has
+-- the places of an array of marks, more than a run has: so the count of a run's marks is a byte
 abbrev pub markPlaces : ℕ
 markPlaces = 256
-
--- the places of a run where rows need not be told apart; `run-fits` says what it must be
-abbrev pub runLength : ℕ
-runLength = 240
 
 -- the places passed over at once
 abbrev pub block : ℕ
 block = 8
 
--- two erosions of a plate, and an array for the marks of a row
-pub record MarkBuffers (p : Head) (prev cur marks : List ℕ) : Type 0 where
-  pub narrow : p .width ≤ largestSide
+-- the cell of a place of a map with rows of w bytes
+abbrev pub placeCell : ℕ → ℕ → Cell
+placeCell w n = cell (n % w) (n / w)
+
+-- places of two maps with the nine bytes about each in the second, and an array for their marks
+pub record RunBuffers (w : ℕ) (s : Places) (prev cur marks : List ℕ) : Type 0 where
+  pub interior : Interior w (s .start) (s .start + s .number) cur
+  pub short : s .number < markPlaces
+  pub before : s .start + s .number ≤ length prev
+  pub size : length marks ≡ markPlaces
+
+-- places of two erosions of a plate, and an array for their marks
+pub record SweepBuffers (p : Head) (s : Places) (prev cur marks : List ℕ) : Type 0 where
+  pub wide : 1 ≤ p .width
+  pub within : s .start + s .number ≤ area p
+  pub short : s .number < markPlaces
   pub before : area p ≤ length prev
   pub after : area p ≤ length cur
   pub size : length marks ≡ markPlaces
 
--- places of two maps, counted from one on, and an array for their marks
-pub record RunBuffers (w start from to : ℕ) (prev cur marks : List ℕ) : Type 0 where
-  pub interior : Interior w (start + from) (start + to) cur
-  pub short : to ≤ runLength
-  pub before : start + to ≤ length prev
-  pub size : length marks ≡ markPlaces
-
--- 1 where b taken off a leaves something, else 0
+-- the depth a where b taken off it leaves something, "a cell with residue k above 0", else 0
 abbrev pub markOf : ℕ → ℕ → ℕ
-markOf a b = cond (ltb b a) 1 0
+markOf a b = cond (ltb b a) a 0
 
--- the mark of column x in row y: "a cell with residue k above 0", of the erosions (rungs) k−1 and k in two maps
-abbrev pub markAt : Head → List ℕ → List ℕ → ℕ → ℕ → ℕ
-markAt p prev cur y x = markOf (getD prev (y * p .width + x) 0) (highestNear (p .kind) (at p cur) (cell x y))
+-- how many marks a mark is
+abbrev pub counted : ℕ → ℕ
+counted v = cond (eqb v 0) 0 1
 
--- the mark of place n, by the nine bytes about it
-abbrev pub markNear : Kind → ℕ → List ℕ → List ℕ → ℕ → ℕ
-markNear kd w prev cur n = markOf (getD prev n 0) (windowMax kd (windowIn cur w n))
+-- the lowest and the highest of a map about place n: of its nine bytes, and of its cell and its neighbours
+abbrev pub lowIn : Kind → ℕ → List ℕ → ℕ → ℕ
+lowIn kd w m n = windowMin kd (windowIn m w n)
 
--- f 0 + f 1 + … + f (n - 1)
+abbrev pub highIn : Kind → ℕ → List ℕ → ℕ → ℕ
+highIn kd w m n = windowMax kd (windowIn m w n)
+
+abbrev pub lowNear : Head → List ℕ → ℕ → ℕ
+lowNear p m n = lowestNear (p .kind) (at p m) (placeCell (p .width) n)
+
+abbrev pub highNear : Head → List ℕ → ℕ → ℕ
+highNear p m n = highestNear (p .kind) (at p m) (placeCell (p .width) n)
+
+-- how many of f 0, f 1, … f (n - 1) are marks
 abbrev pub tally : (ℕ → ℕ) → ℕ → ℕ
 tally f zero = 0
-tally f (suc n) = tally f n + f n
+tally f (suc n) = tally f n + counted (f n)
 
--- the marks of the columns, or of the places of a run, from one up to another; r is how many are 1
-pub record Marked (f : ℕ → ℕ) (from to : ℕ) (old new : List ℕ) (r : ℕ) : Type 0 where
-  pub filled : Filled f from to old new
-  pub count : r + tally f from ≡ tally f to
-  pub few : r ≤ to - from
+-- the marks of places from one on, of erosions of which the second's highest about a place is known
+abbrev pub marksOf : (ℕ → ℕ) → ℕ → List ℕ → ℕ → ℕ
+marksOf high start prev i = markOf (getD prev (start + i) 0) (high (start + i))
+
+-- a sweep over some places from one on: the lowest about each is written, each is marked; how many are, and a number no lower than any written
+pub record Sweep (low high : ℕ → ℕ) (start number : ℕ) (prev prev′ marks marks′ : List ℕ) (count top : ℕ) : Type 0 where
+  pub next : Filled low start (start + number) prev prev′
+  pub marked : Filled (marksOf high start prev) 0 number marks marks′
+  pub counts : count ≡ tally (marksOf high start prev) number
+  pub few : count ≤ number
+  pub under : (n : ℕ) → start ≤ n → n < start + number → getD prev′ n 0 ≤ top
 
 -- no place from one up to another is marked
 pub record Unmarked (marks : List ℕ) (from to : ℕ) : Type 0 where

@@ -1,106 +1,136 @@
-// Marks of one row, or of one run of places, of two erosions: where a cell has a residue above 0, how many such cells there are,
-// and which is next.
+// Sweeps over places of two erosions, one after the other: each place with a residue above 0 is marked with its depth, and the erosion after
+// both is written over the first. Marks are counted, and looked for.
 use geometry::Head;
 use geometry::Kind;
 ghost use mathlib.Core.Path.{_≡_};
-ghost use Prim.Native.Nat.{_+_, _*_, _≤_, _<_};
+ghost use Prim.Native.Nat.{_+_, _≤_};
 ghost use lib.ListN.{length};
-ghost use Rattle.buffers.specs.Runs.{Columns};
-ghost use Rattle.residue_marks.specs.Marks.{markPlaces, block, MarkBuffers, RunBuffers, markOf, markAt, markNear, Marked, Unmarked, NextMark};
+ghost use Rattle.residue_marks.specs.Marks.{markPlaces, block, RunBuffers, SweepBuffers, markOf, counted, lowIn, highIn, lowNear, highNear};
+ghost use Rattle.residue_marks.specs.Marks.{Sweep, Unmarked, NextMark};
+ghost use Rattle.buffers.specs.Margin.{Margin};
 
-// The marks of a row or a run are held in an array of this length.
+// The marks of a run are held in an array of this length.
 pub const MARK_PLACES: usize = 256;
 
-// The places marked at once where rows need not be told apart: a multiple of 16, and few enough that their count is a byte.
+// The places swept at once where their windows lie in the map: a multiple of 16, and few enough that their count is a byte.
 pub const RUN: usize = 240;
 
 // The places passed over at once where none of them is marked.
 const BLOCK: usize = 8;
 
-// 1 where the second number taken off the first leaves something, else 0.
-fn mark(a: u8, b: u8) -> u8
-    ensures { λ r. ⌜ r ≡ markOf a b ⌝ }
-{
-    if b < a { 1 } else { 0 }
+// Places of a flat map, one after the other.
+pub struct Places {
+    pub start: usize,
+    pub number: usize,
 }
 
-// Marks of some places, counted from one on, with the nine bytes about a place for its window. Returns how many are 1.
-pub fn mark_run(
+// What a sweep found: how many places are marked, and a number no lower than any that it wrote.
+pub struct Swept {
+    pub count: u8,
+    pub top: u8,
+}
+
+// A depth where the highest of the next erosion about it is lower, else 0.
+fn mark(depth: u8, highest: u8) -> u8
+    ensures { λ r. ⌜ r ≡ markOf depth highest ⌝ }
+{
+    if highest < depth { depth } else { 0 }
+}
+
+// 1 for a mark, 0 for none.
+fn count_of(mark: u8) -> u8
+    ensures { λ r. ⌜ r ≡ counted mark ⌝ }
+{
+    if mark == 0 { 0 } else { 1 }
+}
+
+// Sweeps places with the nine bytes about each for its window.
+fn sweep_run(
     kind: Kind,
-    prev: &[u8],
-    cur: &[u8],
     width: usize,
-    start: usize,
-    from: usize,
-    to: usize,
-    marks: &mut [u8; MARK_PLACES],
-) -> u8
-    requires { ⌜ RunBuffers width start from to (now prev) (now cur) (now marks) ⌝ }
-    ensures { λ r. ⌜ Marked (λ x. markNear kind width (now (prev .entry)) (now (cur .entry)) (start + x)) from to
-        (now (marks .entry)) (now (marks .exit)) r ⌝ }
-{
-    let mut count = 0u8;
-    let mut x = from;
-    while x < to {
-        let n = start + x;
-        let v = mark(
-            prev[n],
-            window::window_max(kind, window::window_in(cur, width, n)),
-        );
-        marks[x] = v;
-        count += v;
-        x += 1;
-    }
-    count
-}
-
-// Marks of some columns of any row, each cell by its own window. Returns how many are 1.
-fn mark_cells(
-    head: Head,
-    prev: &[u8],
+    places: Places,
+    prev: &mut [u8],
     cur: &[u8],
-    row: u16,
-    from: u16,
-    to: u16,
     marks: &mut [u8; MARK_PLACES],
-) -> u8
-    requires { ⌜ Columns head row from to × MarkBuffers head (now prev) (now cur) (now marks) ⌝ }
-    ensures { λ r. ⌜ Marked (markAt head (now (prev .entry)) (now (cur .entry)) row) from to
-        (now (marks .entry)) (now (marks .exit)) r ⌝ }
+) -> Swept
+    requires { ⌜ RunBuffers width places (now prev) (now cur) (now marks) ⌝ }
+    ensures { λ r. ⌜ Sweep (lowIn kind width (now (cur .entry))) (highIn kind width (now (cur .entry))) (places .start) (places .number)
+        (now (prev .entry)) (now (prev .exit)) (now (marks .entry)) (now (marks .exit)) (r .count) (r .top) ⌝ }
 {
-    let kind = head.kind;
-    let start = (row as usize) * (head.width as usize);
+    let start = places.start;
+    let number = places.number;
     let mut count = 0u8;
-    let mut x = from;
-    while x < to {
-        let v = mark(
-            prev[start + (x as usize)],
-            window::window_max(kind, window::window_at(head, cur, x, row)),
-        );
-        marks[x as usize] = v;
-        count += v;
-        x += 1;
+    let mut top = 0u8;
+    let mut i = 0;
+    while i < number {
+        let n = start + i;
+        let win = window::window_in(cur, width, n);
+        let low = window::window_min(kind, win);
+        let v = mark(prev[n], window::window_max(kind, win));
+        marks[i] = v;
+        prev[n] = low;
+        count += count_of(v);
+        top = window::higher(top, low);
+        i += 1;
     }
-    count
+    Swept { count, top }
 }
 
-// Marks of one row: of its ends by their windows, of the other columns in one run. Returns how many are 1.
-pub fn mark_row(head: Head, prev: &[u8], cur: &[u8], row: u16, marks: &mut [u8; MARK_PLACES]) -> u8
-    requires { ⌜ (row < head .height) × MarkBuffers head (now prev) (now cur) (now marks) ⌝ }
-    ensures { λ r. ⌜ Marked (markAt head (now (prev .entry)) (now (cur .entry)) row) 0 (head .width)
-        (now (marks .entry)) (now (marks .exit)) r ⌝ }
+// Sweeps any places, each cell by its own window.
+fn sweep_cells(
+    head: Head,
+    places: Places,
+    prev: &mut [u8],
+    cur: &[u8],
+    marks: &mut [u8; MARK_PLACES],
+) -> Swept
+    requires { ⌜ SweepBuffers head places (now prev) (now cur) (now marks) ⌝ }
+    ensures { λ r. ⌜ Sweep (lowNear head (now (cur .entry))) (highNear head (now (cur .entry))) (places .start) (places .number)
+        (now (prev .entry)) (now (prev .exit)) (now (marks .entry)) (now (marks .exit)) (r .count) (r .top) ⌝ }
 {
     let kind = head.kind;
-    let width = head.width;
-    if !window::is_inner(head, row) {
-        return mark_cells(head, prev, cur, row, 0, width, marks);
+    let width = head.width as usize;
+    let start = places.start;
+    let number = places.number;
+    let mut count = 0u8;
+    let mut top = 0u8;
+    let mut i = 0;
+    while i < number {
+        let n = start + i;
+        let win = window::window_at(head, cur, (n % width) as u16, (n / width) as u16);
+        let low = window::window_min(kind, win);
+        let v = mark(prev[n], window::window_max(kind, win));
+        marks[i] = v;
+        prev[n] = low;
+        count += count_of(v);
+        top = window::higher(top, low);
+        i += 1;
     }
-    let wide = width as usize;
-    let start = (row as usize) * wide;
-    let first = mark_cells(head, prev, cur, row, 0, 1, marks);
-    let inner = mark_run(kind, prev, cur, wide, start, 1, wide - 1, marks);
-    let last = mark_cells(head, prev, cur, row, width - 1, width, marks);
-    first + inner + last
+    Swept { count, top }
+}
+
+// Sweeps places of erosions of which the second is 0 along the border: by the nine bytes about each where these lie in the map.
+pub fn sweep_places(
+    head: Head,
+    places: Places,
+    prev: &mut [u8],
+    cur: &[u8],
+    marks: &mut [u8; MARK_PLACES],
+) -> Swept
+    requires { ⌜ SweepBuffers head places (now prev) (now cur) (now marks) × Margin head 1 (now cur) ⌝ }
+    ensures { λ r. ⌜ Sweep (lowNear head (now (cur .entry))) (highNear head (now (cur .entry))) (places .start) (places .number)
+        (now (prev .entry)) (now (prev .exit)) (now (marks .entry)) (now (marks .exit)) (r .count) (r .top) ⌝ }
+{
+    let kind = head.kind;
+    let width = head.width as usize;
+    let cells = (head.height as usize) * width;
+    if places.start <= width {
+        return sweep_cells(head, places, prev, cur, marks);
+    }
+    if cells < places.start + places.number + width + 1 {
+        return sweep_cells(head, places, prev, cur, marks);
+    }
+    sweep_run(kind, width, places, prev, cur, marks)
 }
 
 // All marks of a block in one byte, which is 0 only if none is marked.

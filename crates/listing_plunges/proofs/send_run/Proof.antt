@@ -1,67 +1,98 @@
--- `send_run` sends what the marks of the places show.
-use mathlib.Core.Path.{sym}
+-- `send_run` by the kind of pass: `run-written`, `run-staged` and `sent-compared` say what each has sent.
+use mathlib.Core.Path.{refl}
 use native.Mathlib.Omega.{arith}
-use native.Mathlib.Nat.{mul-le-mul-right}
-use Rattle.listing_plunges.proofs.Plunges.{sent-as, room-as}
-use Rattle.listing_plunges.proofs.Runs.{run-marked, run-count}
+use Rattle.listing_pass.proofs.Passes.{sent-compared}
+use Rattle.listing_plunges.specs.Runs.{foundPlunges}
+use Rattle.listing_plunges.proofs.Marks.{none-sent, run-written, run-staged, staged-long}
 use borrow.Author.Needs.{needs}
 use Rattle.listing_plunges.proofs.send_run.Statement.{statement}
 use Rattle.listing_plunges.proofs.send_run.Tie as tie
-use Rattle.residue_marks.proofs.mark_run.Reads as mark-run-reads
-use Rattle.listing_plunges.proofs.send_some.Reads as send-some-reads
+use Rattle.listing_plunges.proofs.send_run.Reads as reads
+use Rattle.listing_plunges.proofs.send_run.Lts as lts
+use Rattle.listing_plunges.proofs.compare_marks.Reads as compare-marks-reads
+use Rattle.listing_plunges.proofs.put_marks.Reads as put-marks-reads
 
-cast-width : tie.Need-cast-width
-cast-width c = search needs
+-- src/lib.rt:118:9
+returns : tie.Need-returns
+returns c = none-sent (c .before .before .before .before .args .pass) (c .before .before .before .before .args .file .now) (c .before .before .before .before .args .at) (foundPlunges (c .before .before .before .before .args .found) (c .before .before .before .before .args .marks .now)) (c .before .before .before .before .args .out .now) (c .before .before .before .before .args .out .now) _ (c .before .before .before .before .pre .marked .count) (c .if1 .taken)
 
-mark-run-requires : tie.Need-mark-run-requires
-mark-run-requires c κs =
-    let at-start = c .before .before .before .before .before .before in
-    record {
-      interior =
-          record {
-            under = omega (arith, at-start .pre .3);
-            ordered = omega arith;
-            over = omega (arith, at-start .pre .5, at-start .pre .7);
-          };
-      short = at-start .pre .4;
-      before = omega (arith, at-start .pre .5, at-start .pre .6);
-      size = at-start .pre .8;
-    }
+-- src/lib.rt:120:44
+cast-end : tie.Need-cast-end
+cast-end c = search needs
 
-send-some-requires : tie.Need-send-some-requires
-send-some-requires c κs =
-    let at-start = c .before .before .before .before .before .before .before .before .before in
-    let given = at-start .args in (
-      at-start .pre .0,
-      at-start .pre .1,
-      at-start .pre .4,
-      omega (arith, at-start .pre .5, mul-le-mul-right (given .head .width) (at-start .pre .2)),
-      omega (arith, at-start .pre .5, at-start .pre .6),
-      omega (arith, c .before .before .mark-run .ensures .filled .same),
-      at-start .pre .9,
-      run-count (given .head) (given .prev .now) (given .cur .now) (given .reach .0) (given .start) (given .number) _ _ _
-          (c .before .before .mark-run .ensures),
-      omega (arith, c .before .before .mark-run .ensures .few),
-      room-as (given .pass) (given .at) _ _ (given .out .now)
-          (sym
-          (run-marked (given .head) (given .prev .now) (given .cur .now) (given .reach .0) (given .start) (given .number) _ _
-          _ (c .before .before .mark-run .ensures))) (at-start .pre .10),
-    )
+-- src/lib.rt:120:20
+mul-end : tie.Need-mul-end
+mul-end c = search needs
 
+-- src/lib.rt:120:15
+add-end : tie.Need-add-end
+add-end c = search needs
+
+-- src/lib.rt:123:37
+enum-told : tie.Need-enum-told
+enum-told c = search needs
+
+-- src/lib.rt:123:13
+put-marks-requires : tie.Need-put-marks-requires
+put-marks-requires c κs = (c .before .before .before .before .before .before .before .before .pre .marked, c .before .before .before .before .before .before .before .before .pre .room (c .before .enum-told .given .1))
+
+-- src/lib.rt:129:26
+enum-told-2 : tie.Need-enum-told-2
+enum-told-2 c = search needs
+
+-- src/lib.rt:129:26
+compare-marks-requires : tie.Need-compare-marks-requires
+compare-marks-requires c κs = search needs
+
+-- src/lib.rt:131:23
+enum-told-3 : tie.Need-enum-told-3
+enum-told-3 c = search needs
+
+-- src/lib.rt:132:17
+put-marks-requires-2 : tie.Need-put-marks-requires-2
+put-marks-requires-2 c κs = search needs
+
+-- src/lib.rt:106:1
 same-length : tie.Need-same-length
 same-length c = search needs
 
-returns : tie.Need-returns
-returns c =
-    let at-mark-run = c .before .before .before .before .before in
-    let at-start = at-mark-run .before .before .before .before .before .before .before in
-    let given = at-start .args in (
-      omega (arith, at-mark-run .mark-run .ensures .filled .same),
-      sent-as (given .pass) (given .file .now) (given .at) _ _ (given .out .now) _ _
-          (run-marked (given .head) (given .prev .now) (given .cur .now) (given .reach .0) (given .start) (given .number) _ _
-          _ (at-mark-run .mark-run .ensures)) (c .before .before .send-some .ensures),
-    )
+-- src/lib.rt:106:1
+returns-2 : tie.Need-returns-2
+returns-2 c = run-written _ _ _ (foundPlunges (c .before .before .before .before .before .before .before .before .before .before .before .args .found) (c .before .before .before .before .before .before .before .before .before .before .before .args .marks .now)) _ _ _ (c .before .before .before .before .before .before .before .before .before .before .before .pre .marked .count) (c .before .before .before .before .enum-told .given .1) (c .before .before .put-marks .ensures)
+
+-- src/lib.rt:106:1
+returns-3 : tie.Need-returns-3
+returns-3 c = sent-compared _ _ _ _ _ (c .before .before .before .before .before .before .before .before .args .out .now) (c .before .enum-told2 .given .1) _ (c .compare-marks .ensures)
+
+-- src/lib.rt:106:1
+same-length-2 : tie.Need-same-length-2
+same-length-2 c = search needs
+
+-- src/lib.rt:106:1
+returns-4 : tie.Need-returns-4
+returns-4 c = run-staged _ _ _ (foundPlunges (c .before .before .before .before .before .before .before .before .before .before .before .before .args .found) (c .before .before .before .before .before .before .before .before .before .before .before .before .args .marks .now)) _ _ _ (c .before .before .before .before .before .before .before .before .before .before .before .before .pre .marked .count) (c .before .before .before .before .before .enum-told3 .given .1) (staged-long _ (foundPlunges (c .before .before .before .before .before .before .before .before .before .before .before .before .args .found) (c .before .before .before .before .before .before .before .before .before .before .before .before .args .marks .now)) _ _ _ (c .before .before .before .before .before .before .before .before .before .before .before .before .pre .marked .count) (c .before .before .before .before .if2 .taken) (c .before .before .put-marks2 .ensures))
+
+-- src/lib.rt:106:1
+returns-5 : tie.Need-returns-5
+returns-5 c = run-staged _ _ _ (foundPlunges (c .before .before .before .before .before .before .before .before .args .found) (c .before .before .before .before .before .before .before .before .args .marks .now)) _ _ _ (c .before .before .before .before .before .before .before .before .pre .marked .count) (c .before .enum-told3 .given .1) (refl, λ h. absurd (omega (arith, h, c .if2 .left)))
 
 pub send-run-spec : {M : Type 1} → statement M
 send-run-spec =
-    tie.close (tie.spec cast-width mark-run-requires send-some-requires same-length returns)
+    tie.close
+    (tie.spec
+    returns
+    cast-end
+    mul-end
+    add-end
+    enum-told
+    put-marks-requires
+    enum-told-2
+    compare-marks-requires
+    enum-told-3
+    put-marks-requires-2
+    same-length
+    returns-2
+    returns-3
+    same-length-2
+    returns-4
+    returns-5)

@@ -1,0 +1,2 @@
+pub mod Plunges
+pub mod Stands
