@@ -106,9 +106,6 @@ module _ (pass : Pass) (file : List ℕ) (p : Head) (m old a b : List ℕ) (s : 
     of : TakenOf p m s a″ b″ marks run
     of = taken .step m (l .stands more)
 
-    found : Found
-    found = record { width = p .width; reach = reach; places = run .places; count = run .count }
-
     plunges : marksTo (run .places .number) (p .width) (reach .0) (run .places .start) marks ≡ runListed p m (s .number) (run .places)
     plunges = ap (λ (r : ℕ). marksTo (run .places .number) (p .width) r (run .places .start) marks) is ∙ of .marked
 
@@ -137,7 +134,7 @@ module _ (pass : Pass) (file : List ℕ) (p : Head) (m old a b : List ℕ) (s : 
     )
 
     -- what sending the run asks
-    pub listed-asks : ToSend pass (record { width = p .width; reach = reach; places = run .places; count = run .count }) marks place mid
+    pub listed-asks : ToSend pass (record { width = p .width; reach = reach; places = run .places; deepest = run .deepest }) marks place mid
     listed-asks =
         let within = taken .within in
         record {
@@ -147,7 +144,7 @@ module _ (pass : Pass) (file : List ℕ) (p : Head) (m old a b : List ℕ) (s : 
             within = omega (arith, within, mul-le-mul-right (p .width) (sides .low));
             short = taken .short;
             size = taken .size;
-            count = of .count ∙ ap length (sym plunges);
+            none = λ z. plunges ∙ of .none z;
           };
           place = omega (arith, at-place, few, listing-few p m sides);
           room = λ e. omega (arith, room e, at-place, few, l .same);

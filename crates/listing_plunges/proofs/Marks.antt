@@ -1,14 +1,14 @@
 -- What an array of marks writes, from mark to mark; and how written, staged and compared plunges are sent.
 use mathlib.Core.Path.{_≡_, refl, sym, ap, ap₂, _∙_, subst}
-use mathlib.Core.Bool.{true}
-use mathlib.Core.List.{List, [], _∷_, _++_}
-use Prim.Native.Nat.{ℕ, _+_, _*_, _-_, _%_, _/_, _≤_, _<_}
+use mathlib.Core.Bool.{Bool, true, false, cond}
+use mathlib.Core.List.{List, [], _∷_, _++_, map, map-append}
+use Prim.Native.Nat.{ℕ, zero, suc, _+_, _*_, _-_, _%_, _/_, _≤_, _<_}
 use native.Mathlib.Omega.{arith}
 use native.Mathlib.Nat.{mod-lt, div-lt-iff-lt-mul}
-use borrow.Author.Tests.{eq-eqb, ne-eqb}
+use native.Mathlib.Numerals.{add-one}
 use lib.Dec.{eqb}
-use lib.ListN.{length, getD, take, drop, length-append}
-use lib.Seq.{take-append-seam}
+use lib.ListN.{length, getD, take, drop, length-take, length-map}
+use lib.Seq.{take-append-seam, take-suc, getD-take}
 use Rattle.geometry.specs.declared.Plunge.{Plunge}
 use Rattle.geometry.specs.Lists.{gather, common}
 use Rattle.refusal.specs.Refusals.{largestSide}
@@ -16,12 +16,13 @@ use Rattle.fields.specs.Fields.{plungeField, plungeFields, plungeBytes}
 use Rattle.fields.specs.Writing.{spliced}
 use Rattle.fields.proofs.Splice.{splice-nil, splice-start, splice-length, splice-splice}
 use Rattle.fields.proofs.Encoding.{plungeFields-append, plungeFields-length}
-use Rattle.residue_marks.specs.Marks.{NextMark}
+use Rattle.residue_marks.specs.Marks.{onPlace, markedPlaces, Noted}
+use Rattle.residue_marks.proofs.Marking.{tally-few}
 use Rattle.residue_series.specs.Plunges.{plungeAt, onMark, marksTo}
-use Rattle.residue_series.proofs.Gather.{gather-turn, gather-stops, gather-parts}
+use Rattle.residue_series.proofs.Plunges.{tally-length}
 use Rattle.listing_pass.specs.declared.Pass.{Pass}
 use Rattle.listing_pass.specs.declared.Pass.the-variants.{Write, Stage}
-use Rattle.listing_pass.specs.Sent.{Compared, Sent}
+use Rattle.listing_pass.specs.Sent.{Compared, Staged, Sent}
 use Rattle.listing_pass.proofs.Common.{common-le}
 use Rattle.listing_pass.proofs.Passes.{sent-none, sent-written, sent-staged}
 
@@ -29,148 +30,172 @@ use Rattle.listing_pass.proofs.Passes.{sent-none, sent-written, sent-staged}
 pub place-small : (n w : ℕ) → 1 ≤ w → w ≤ largestSide → n < largestSide * w → (n % w < largestSide) × (n / w < largestSide)
 place-small n w a b h = (omega (arith, mod-lt n a), div-lt-iff-lt-mul a .1 h)
 
--- ---- from mark to mark
+-- ---- plunges at noted places
 
--- the plunges of the places before i are written from a place on, and i is marked or the end
-pub record AtMark (w r start : ℕ) (marks : List ℕ) (at : ℕ) (old : List ℕ) (number i : ℕ) (new : List ℕ) (place : ℕ) : Type 0 where
-  pub within : i ≤ number
-  pub marked : i < number → getD marks i 0 ≡ 0 → ⊥
-  pub written : new ≡ spliced old at (plungeFields (marksTo i w r start marks))
-  pub reached : place ≡ at + plungeBytes * length (marksTo i w r start marks)
+-- the plunge of a noted place
+abbrev pub notedPlunge : ℕ → ℕ → ℕ → List ℕ → ℕ → Plunge
+notedPlunge w r start marks i = plungeAt w r (start + i) (getD marks i 0)
 
-module _ (w r start : ℕ) (marks : List ℕ) (at : ℕ) (old : List ℕ) (number : ℕ) where
-  abbrev each : ℕ → List Plunge
-  each j = onMark w r (start + j) (getD marks j 0)
+-- the marked places of an array stand for its plunges, and lie before its end
+module _ (w r start : ℕ) (marks : List ℕ) where
+  places-plunges : (n i : ℕ) → map (notedPlunge w r start marks) (markedPlaces marks n i) ≡ gather n i (λ j. onMark w r (start + j) (getD marks j 0))
+  places-plunges zero i = refl
+  places-plunges (suc n) i =
+      map-append (notedPlunge w r start marks) (onPlace marks i) (markedPlaces marks n (suc i)) ∙ ap₂ (λ l o. l ++ o) (go (eqb (getD marks i 0) 0)) (places-plunges n (suc i))
+    where
+      go : (t : Bool) → map (notedPlunge w r start marks) (cond t [] (i ∷ [])) ≡ cond t [] (notedPlunge w r start marks i ∷ [])
+      go true = refl
+      go false = refl
 
-  -- on to the next mark: places without one stand for nothing
-  past : (i next : ℕ) → NextMark marks i number next → marksTo next w r start marks ≡ marksTo i w r start marks
-  past i next m = gather-stops each i next (m .onward) (λ j a b. let z = m .passed .none j a b in rw (eq-eqb _ _ z))
+places-below : (marks : List ℕ) (n i j : ℕ) → j < length (markedPlaces marks n i) → getD (markedPlaces marks n i) j 0 < i + n
+places-below marks zero i j h = absurd (omega arith)
+places-below marks (suc n) i j h = go (eqb (getD marks i 0) 0) j h (places-below marks n (suc i))
+  where
+    go : (t : Bool) (j : ℕ) → j < length (cond t [] (i ∷ []) ++ markedPlaces marks n (suc i))
+        → ((j : ℕ) → j < length (markedPlaces marks n (suc i)) → getD (markedPlaces marks n (suc i)) j 0 < suc i + n)
+        → getD (cond t [] (i ∷ []) ++ markedPlaces marks n (suc i)) j 0 < i + suc n
+    go true j h r = omega (arith, r j h)
+    go false zero h r = omega arith
+    go false (suc j) h r = omega (arith, r j (omega arith))
 
-  pub mark-first : (i : ℕ) → NextMark marks 0 number i → AtMark w r start marks at old number i old at
-  mark-first i m =
-      let e = past 0 i m in
-      record {
-        within = m .within;
-        marked = m .marked;
-        written = sym (ap (λ l. spliced old at (plungeFields l)) e ∙ splice-nil old at);
-        reached = omega (arith, ap length e);
-      }
+-- the plunges of the first j noted places are written from a place on
+pub record Put (w r start : ℕ) (marks noted : List ℕ) (at : ℕ) (old : List ℕ) (j : ℕ) (new : List ℕ) (place : ℕ) : Type 0 where
+  pub written : new ≡ spliced old at (plungeFields (map (notedPlunge w r start marks) (take j noted)))
+  pub reached : place ≡ at + plungeBytes * j
 
-  module _ (i : ℕ) (mid : List ℕ) (place : ℕ) (s : AtMark w r start marks at old number i mid place)
-      (room : at + plungeBytes * length (marksTo number w r start marks) ≤ length old) where
-    so-far : List Plunge
-    so-far = marksTo i w r start marks
+module _ (w r start : ℕ) (marks noted₀ noted : List ℕ) (at : ℕ) (old : List ℕ) (number count : ℕ) (n : Noted marks 0 number 0 noted₀ count noted)
+    (long : number ≤ length noted₀) where
+  all : take count noted ≡ markedPlaces marks number 0
+  all = let e : number - 0 ≡ number = omega arith in n .places ∙ ap (λ (k : ℕ). markedPlaces marks k 0) e
 
-    -- what is written so far fits
-    fits : at + plungeBytes * length so-far ≤ length old
-    unfolding so-far
-    fits = omega (
-      arith,
-      ap length (gather-parts each i number (s .within)),
-      length-append (gather i 0 each) (gather (number - i) i each),
-    )
+  counted : length (markedPlaces marks number 0) ≡ count
+  counted = sym (ap length all) ∙ length-take count noted ∙ (let a = n .few in let b = n .same in omega arith)
 
-    pub mark-same : length mid ≡ length old
-    unfolding so-far
-    mark-same = ap length (s .written) ∙ splice-length old at (plungeFields so-far) (omega (arith, plungeFields-length so-far, fits))
+  plunges : map (notedPlunge w r start marks) (take count noted) ≡ marksTo number w r start marks
+  plunges = ap (map (notedPlunge w r start marks)) all ∙ places-plunges w r start marks number 0
 
-    pub mark-end : number ≤ i → mid ≡ spliced old at (plungeFields (marksTo number w r start marks))
-    mark-end h = let e : i ≡ number = let l = s .within in omega arith in
-        s .written ∙ ap (λ (j : ℕ). spliced old at (plungeFields (marksTo j w r start marks))) e
+  pub noted-count : length (marksTo number w r start marks) ≡ count
+  noted-count = sym (ap length plunges) ∙ length-map (take count noted) (notedPlunge w r start marks) ∙ ap length all ∙ counted
 
-    module _ (less : i < number) where
-      one : marksTo (i + 1) w r start marks ≡ marksTo i w r start marks ++ (plungeAt w r (start + i) (getD marks i 0) ∷ [])
-      one = let d = s .marked less in
-          gather-turn each i ∙ ap (λ l. marksTo i w r start marks ++ l) (rw (ne-eqb _ _ d))
-
-      pub mark-room : place + plungeBytes ≤ length mid
-      mark-room = omega (
+  -- a noted place lies before the run's end
+  pub noted-below : (j : ℕ) → j < count → getD noted j 0 < number
+  noted-below j h =
+      omega (
         arith,
-        s .reached,
-        mark-same,
-        room,
-        ap length (gather-parts each (i + 1) number (omega arith)),
-        length-append (gather (i + 1) 0 each) (gather (number - (i + 1)) (i + 1) each),
-        ap length one,
-        length-append (gather i 0 each) (plungeAt w r (start + i) (getD marks i 0) ∷ []),
+        getD-take count noted j 0 h,
+        ap (λ (l : List ℕ). getD l j 0) all,
+        places-below marks number 0 j (omega (arith, counted)),
       )
 
-      -- the plunge of a mark more, and on to the next mark
-      pub mark-more : (q : Plunge) (new : List ℕ) (next : ℕ) → q ≡ plungeAt w r (start + i) (getD marks i 0) → new ≡ spliced mid place (plungeField q)
-          → NextMark marks (i + 1) number next → AtMark w r start marks at old number next new (place + plungeBytes)
-      unfolding so-far
-      mark-more q new next is e m =
+  pub put-none : Put w r start marks noted at old 0 old at
+  put-none = record { written = sym (splice-nil old at); reached = omega arith }
+
+  module _ (j : ℕ) (mid : List ℕ) (place : ℕ) (s : Put w r start marks noted at old j mid place)
+      (room : at + plungeBytes * length (marksTo number w r start marks) ≤ length old) (within : j ≤ count) where
+    sized : length (plungeFields (map (notedPlunge w r start marks) (take j noted))) ≡ plungeBytes * j
+    sized =
+        let a = n .few in
+        let b = n .same in
+        omega (
+          arith,
+          plungeFields-length (map (notedPlunge w r start marks) (take j noted)),
+          length-map (take j noted) (notedPlunge w r start marks),
+          length-take j noted,
+        )
+
+    pub put-same : length mid ≡ length old
+    put-same = ap length (s .written) ∙ splice-length old at _ (omega (arith, sized, noted-count, room))
+
+    pub put-end : count ≤ j → (place ≡ at + plungeBytes * length (marksTo number w r start marks))
+        × (mid ≡ spliced old at (plungeFields (marksTo number w r start marks)))
+    put-end h =
+        let e : j ≡ count = omega arith in (
+          omega (arith, s .reached, noted-count),
+          s .written ∙ ap (λ (i : ℕ). spliced old at (plungeFields (map (notedPlunge w r start marks) (take i noted)))) e
+              ∙ ap (λ (l : List Plunge). spliced old at (plungeFields l)) plunges,
+        )
+
+    module _ (less : j < count) where
+      pub put-room : place + plungeBytes ≤ length mid
+      put-room = omega (arith, s .reached, put-same, noted-count, room)
+
+      -- one plunge more
+      pub put-more : (q : Plunge) (new : List ℕ) → q ≡ notedPlunge w r start marks (getD noted j 0) → new ≡ spliced mid place (plungeField q)
+          → Put w r start marks noted at old (j + 1) new (place + plungeBytes)
+      put-more q new is e =
           record {
-            within = m .within;
-            marked = m .marked;
             written =
                 e ∙ ap (λ (o : Plunge). spliced mid place (plungeField o)) is
-                ∙ ap₂ (λ (l : List ℕ) (n : ℕ). spliced l n (plungeField (plungeAt w r (start + i) (getD marks i 0)))) (s .written) at-end
-                ∙ splice-splice old at (plungeFields so-far) (plungeField (plungeAt w r (start + i) (getD marks i 0)))
-                (omega (arith, plungeFields-length so-far, fits))
-                ∙ ap (spliced old at)
-                (sym (ap plungeFields (past (i + 1) next m ∙ one) ∙ plungeFields-append so-far (plungeAt w r (start + i) (getD marks i 0) ∷ [])));
-            reached = omega (
-              arith,
-              s .reached,
-              ap length (past (i + 1) next m),
-              ap length one,
-              length-append (gather i 0 each) (plungeAt w r (start + i) (getD marks i 0) ∷ []),
-            );
+                ∙ ap₂ (λ (l : List ℕ) (i : ℕ). spliced l i (plungeField (notedPlunge w r start marks (getD noted j 0)))) (s .written) at-end
+                ∙ splice-splice old at (plungeFields (map (notedPlunge w r start marks) (take j noted))) _ (omega (arith, sized, noted-count, room))
+                ∙ ap (spliced old at) (sym next);
+            reached = omega (arith, s .reached);
           }
         where
-          at-end : place ≡ at + length (plungeFields so-far)
-          at-end = omega (arith, s .reached, plungeFields-length so-far)
+          at-end : place ≡ at + length (plungeFields (map (notedPlunge w r start marks) (take j noted)))
+          at-end = omega (arith, s .reached, sized)
+
+          next : plungeFields (map (notedPlunge w r start marks) (take (j + 1) noted))
+              ≡ plungeFields (map (notedPlunge w r start marks) (take j noted)) ++ plungeField (notedPlunge w r start marks (getD noted j 0))
+          next =
+              let a = n .few in
+              let b = n .same in
+              ap (λ (l : List ℕ). plungeFields (map (notedPlunge w r start marks) l))
+              (ap (λ (i : ℕ). take i noted) (add-one j) ∙ take-suc noted j 0 (omega arith))
+              ∙ ap plungeFields (map-append (notedPlunge w r start marks) (take j noted) (getD noted j 0 ∷ []))
+              ∙ plungeFields-append (map (notedPlunge w r start marks) (take j noted)) (notedPlunge w r start marks (getD noted j 0) ∷ [])
 
 -- ---- a run sent
 
-module _ (pass : Pass) (file : List ℕ) (at : ℕ) (qs : List Plunge) (old new : List ℕ) (count : ℕ) (counted : count ≡ length qs) where
-  sized : length (plungeFields qs) ≡ plungeBytes * count
-  sized = omega (arith, plungeFields-length qs)
+module _ (pass : Pass) (file : List ℕ) (at : ℕ) (qs : List Plunge) (old new : List ℕ) where
+  pub none-sent : qs ≡ [] → Sent pass file at (plungeFields qs) old old (record { at = at; like = true })
+  none-sent e = subst (λ (l : List Plunge). Sent pass file at (plungeFields l) old old (record { at = at; like = true })) (sym e) (sent-none pass file at old)
 
-  pub none-sent : count ≡ 0 → Sent pass file at (plungeFields qs) old old (record { at = at; like = true })
-  none-sent z = subst (λ (l : List Plunge). Sent pass file at (plungeFields l) old old (record { at = at; like = true })) (sym (empty qs (omega arith)))
-      (sent-none pass file at old)
-    where
-      empty : (l : List Plunge) → length l ≡ 0 → l ≡ []
-      empty [] e = refl
-      empty (a ∷ l) e = absurd (omega arith)
+  module _ (r : ℕ) (reached : r ≡ at + plungeBytes * length qs) where
+    end : at + length (plungeFields qs) ≡ r
+    end = omega (arith, plungeFields-length qs)
 
-  pub run-written : pass ≡ Write → new ≡ spliced old at (plungeFields qs)
-      → Sent pass file at (plungeFields qs) old new (record { at = at + plungeBytes * count; like = true })
-  run-written e g =
-      subst (λ (j : ℕ). Sent pass file at (plungeFields qs) old new (record { at = at + j; like = true })) sized
-      (sent-written pass file at (plungeFields qs) old new e g)
+    pub run-written : pass ≡ Write → new ≡ spliced old at (plungeFields qs) → Sent pass file at (plungeFields qs) old new (record { at = r; like = true })
+    run-written e g =
+        subst (λ (j : ℕ). Sent pass file at (plungeFields qs) old new (record { at = j; like = true })) end
+        (sent-written pass file at (plungeFields qs) old new e g)
 
-  pub run-staged : pass ≡ Stage → (length new ≡ length old) × (at + plungeBytes * count ≤ length old → new ≡ spliced old at (plungeFields qs))
-      → Sent pass file at (plungeFields qs) old new (record { at = at + plungeBytes * count; like = true })
-  run-staged e g =
-      subst (λ (j : ℕ). Sent pass file at (plungeFields qs) old new (record { at = at + j; like = true })) sized
-      (sent-staged pass file at (plungeFields qs) old new e (g .0, λ h. g .1 (omega (arith, sized))))
+    pub run-staged : pass ≡ Stage → Staged old at (plungeFields qs) new → Sent pass file at (plungeFields qs) old new (record { at = r; like = true })
+    run-staged e g =
+        subst (λ (j : ℕ). Sent pass file at (plungeFields qs) old new (record { at = j; like = true })) end
+        (sent-staged pass file at (plungeFields qs) old new e g)
 
--- plunges that were written where there was room for them
-pub staged-long : (at : ℕ) (qs : List Plunge) (old new : List ℕ) (count : ℕ) → count ≡ length qs → at + plungeBytes * count ≤ length old
-    → new ≡ spliced old at (plungeFields qs)
-    → (length new ≡ length old) × (at + plungeBytes * count ≤ length old → new ≡ spliced old at (plungeFields qs))
-staged-long at qs old new count e h g = (ap length g ∙ splice-length old at (plungeFields qs) (omega (arith, plungeFields-length qs)), λ l. g)
+-- plunges that were written where there was room for them, and plunges for which there is none
+module _ (at : ℕ) (qs : List Plunge) (old new : List ℕ) (bytes : ℕ) (is : bytes ≡ plungeBytes * length qs) where
+  pub staged-long : at + bytes ≤ length old → new ≡ spliced old at (plungeFields qs) → Staged old at (plungeFields qs) new
+  staged-long h g = (ap length g ∙ splice-length old at (plungeFields qs) (omega (arith, plungeFields-length qs)), λ l. g)
+
+  pub staged-short : length old < at + bytes → Staged old at (plungeFields qs) old
+  staged-short h = (refl, λ l. absurd (omega (arith, plungeFields-length qs)))
+
+-- ---- a run compared
 
 -- bytes that were put at the start of a buffer are its first
-pub put-first : (qs : List Plunge) (old new : List ℕ) (count : ℕ) → count ≡ length qs → new ≡ spliced old 0 (plungeFields qs)
-    → take (plungeBytes * count) new ≡ plungeFields qs
-put-first qs old new count e g =
-    let k : plungeBytes * count ≡ length (plungeFields qs) = omega (arith, plungeFields-length qs) in
+pub put-first : (qs : List Plunge) (old new : List ℕ) (n : ℕ) → n ≡ 0 + plungeBytes * length qs → new ≡ spliced old 0 (plungeFields qs)
+    → take n new ≡ plungeFields qs
+put-first qs old new n e g =
+    let k : n ≡ length (plungeFields qs) = omega (arith, plungeFields-length qs) in
     ap₂ take k (g ∙ splice-start old (plungeFields qs)) ∙ take-append-seam (plungeFields qs) (drop (length (plungeFields qs)) old)
 
--- a comparison with bytes that were put so
-module _ (file : List ℕ) (at : ℕ) (qs : List Plunge) (old new : List ℕ) (count r : ℕ) (counted : count ≡ length qs)
-    (put : new ≡ spliced old 0 (plungeFields qs)) (found : r ≡ common (drop at file) (take (plungeBytes * count) new)) where
+-- a comparison with them
+module _ (file : List ℕ) (at : ℕ) (qs : List Plunge) (old new : List ℕ) (n r : ℕ) (counted : n ≡ 0 + plungeBytes * length qs)
+    (put : new ≡ spliced old 0 (plungeFields qs)) (found : r ≡ common (drop at file) (take n new)) where
   as-put : r ≡ common (drop at file) (plungeFields qs)
-  as-put = found ∙ ap (common (drop at file)) (put-first qs old new count counted put)
+  as-put = found ∙ ap (common (drop at file)) (put-first qs old new n counted put)
 
-  pub common-few : r ≤ plungeBytes * count
+  pub common-few : r ≤ n
   common-few = omega (arith, as-put, common-le (drop at file) (plungeFields qs), plungeFields-length qs)
 
-  pub put-compared : Compared file at (plungeFields qs) (record { at = at + r; like = eqb r (plungeBytes * count) })
+  pub put-compared : Compared file at (plungeFields qs) (record { at = at + r; like = eqb r n })
   put-compared =
-      let k : plungeBytes * count ≡ length (plungeFields qs) = omega (arith, plungeFields-length qs) in
-      record { place = ap (λ (n : ℕ). at + n) as-put; like = ap₂ eqb as-put k }
+      let k : n ≡ length (plungeFields qs) = omega (arith, plungeFields-length qs) in
+      record { place = ap (λ (i : ℕ). at + i) as-put; like = ap₂ eqb as-put k }
+
+-- a run has no more plunges than places
+pub marks-few : (n w r start : ℕ) (marks : List ℕ) → length (marksTo n w r start marks) ≤ n
+marks-few n w r start marks = omega (arith, tally-length w r start marks n, tally-few marks n)

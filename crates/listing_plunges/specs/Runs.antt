@@ -1,6 +1,6 @@
 -- Serves proofs: the plunges of a run by an array of its marks, and what writing and sending them ask.
 use mathlib.Core.Path.{_≡_}
-use mathlib.Core.List.{List}
+use mathlib.Core.List.{List, []}
 use Prim.Native.Nat.{ℕ, _+_, _*_, _≤_, _<_}
 use lib.ListN.{length}
 use Rattle.geometry.specs.declared.Plunge.{Plunge}
@@ -24,7 +24,7 @@ pub record FoundMarks (f : Found) (marks : List ℕ) : Type 0 where
   pub within : f .places .start + f .places .number ≤ largestSide * f .width
   pub short : f .places .number < markPlaces
   pub size : length marks ≡ markPlaces
-  pub count : f .count ≡ length (foundPlunges f marks)
+  pub none : f .deepest ≡ 0 → foundPlunges f marks ≡ []
 
 -- what sending them asks: a place that leaves room for all of them, in the output too where they are written
 pub record ToSend (pass : Pass) (f : Found) (marks : List ℕ) (at : ℕ) (out : List ℕ) : Type 0 where

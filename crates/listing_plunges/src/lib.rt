@@ -18,19 +18,21 @@ ghost use Rattle.fields.specs.Lengths.{IsLength};
 ghost use Rattle.fields.specs.Writing.{spliced};
 ghost use Rattle.residue_marks.specs.Marks.{markPlaces};
 ghost use Rattle.residue_series.specs.Plunges.{plungeAt};
-ghost use Rattle.listing_pass.specs.Sent.{Compared, Sent, Room};
+ghost use Rattle.listing_pass.specs.Sent.{Compared, Staged, Sent, Room};
 ghost use Rattle.listing_plunges.specs.Listable.{Listable};
 ghost use Rattle.listing_plunges.specs.Runs.{foundPlunges, FoundMarks, ToSend};
 
-// The bytes of a run's fields, at most.
+// The bytes of a run's fields, at most; and of the fields of a run with few.
 const RUN_BYTES: usize = fields::PLUNGE_BYTES * residue_marks::MARK_PLACES;
 
-// What an array of marks is of: rows of a width, a reach, some places, and how many of them are marked.
+const FEW_BYTES: usize = 1792;
+
+// What an array of marks is of: rows of a width, a reach, some places, and a number no lower than any mark.
 struct Found {
     pub width: usize,
     pub reach: Reach,
     pub places: Places,
-    pub count: u8,
+    pub deepest: u8,
 }
 
 // The reach of a residue's number, which is one less.
@@ -48,36 +50,76 @@ fn reach_of(number: usize) -> Reach
 // The plunge of a place: place n is column n % width of row n / width.
 fn plunge_at(width: usize, reach: Reach, n: usize, depth: u8) -> Plunge
     requires { ⌜ (1 ≤ width) × (width ≤ largestSide) × (n < largestSide * width) ⌝ }
-    ensures { λ r. ⌜ r ≡ plungeAt width (reach .0) n depth ⌝ }
+    ensures { λ r. ⌜ (r ≡ plungeAt width (reach .0) n depth) × (r .column < largestSide) × (r .row < largestSide) ⌝ }
 {
+    let x = (n % width) as u16;
+    let y = (n / width) as u16;
     Plunge {
-        column: (n % width) as u16,
-        row: (n / width) as u16,
+        column: x,
+        row: y,
         reach,
         depth,
     }
 }
 
-// Writes the fields of a run's plunges from a place on, from mark to mark.
-fn put_marks(found: Found, marks: &[u8; residue_marks::MARK_PLACES], out: &mut [u8], at: usize)
+// Writes the fields of a run's plunges from a place on, once their places are noted. Returns the place behind them.
+fn put_marks(
+    found: Found,
+    marks: &[u8; residue_marks::MARK_PLACES],
+    out: &mut [u8],
+    at: usize,
+) -> usize
     requires { ⌜ FoundMarks found (now marks) × (at + plungeBytes * length (foundPlunges found (now marks)) ≤ length (now out)) ⌝ }
-    ensures { λ _. ⌜ now (out .exit) ≡ spliced (now (out .entry)) at (plungeFields (foundPlunges found (now (marks .entry)))) ⌝ }
+    ensures { λ r. ⌜ (r ≡ at + plungeBytes * length (foundPlunges found (now (marks .entry))))
+        × (now (out .exit) ≡ spliced (now (out .entry)) at (plungeFields (foundPlunges found (now (marks .entry))))) ⌝ }
 {
     let width = found.width;
     let reach = found.reach;
     let start = found.places.start;
     let number = found.places.number;
+    let mut noted = [0u16; residue_marks::MARK_PLACES];
+    let count = residue_marks::note_marks(marks, number, &mut noted);
     let mut place = at;
-    let mut i = residue_marks::next_mark(marks, 0, number);
-    while i < number {
+    let mut j = 0;
+    while j < count {
+        let i = noted[j] as usize;
         let q = plunge_at(width, reach, start + i, marks[i]);
         fields::put_plunge(out, place, q);
         place += fields::PLUNGE_BYTES;
-        i = residue_marks::next_mark(marks, i + 1, number);
+        j += 1;
+    }
+    place
+}
+
+// How many bytes the fields of a run's plunges have.
+fn field_bytes(found: Found, marks: &[u8; residue_marks::MARK_PLACES]) -> usize
+    requires { ⌜ FoundMarks found (now marks) ⌝ }
+    ensures { λ r. ⌜ r ≡ plungeBytes * length (foundPlunges found (now (marks .entry))) ⌝ }
+{
+    fields::PLUNGE_BYTES * residue_marks::count_marks(marks, found.places.number)
+}
+
+// Compares the fields of a run's plunges, made in a buffer, with a file from a place on.
+fn compare_in(
+    found: Found,
+    marks: &[u8; residue_marks::MARK_PLACES],
+    bytes: &mut [u8],
+    file: &[u8],
+    at: usize,
+) -> Progress
+    requires { ⌜ FoundMarks found (now marks) × IsLength (at + plungeBytes * markPlaces)
+        × (plungeBytes * length (foundPlunges found (now marks)) ≤ length (now bytes)) ⌝ }
+    ensures { λ r. ⌜ Compared (now (file .entry)) at (plungeFields (foundPlunges found (now (marks .entry)))) r ⌝ }
+{
+    let length = put_marks(found, marks, bytes, 0);
+    let n = listing_pass::common_run(file, at, &bytes[..length]);
+    Progress {
+        at: at + n,
+        like: n == length,
     }
 }
 
-// Compares the fields of a run's plunges with a file from a place on.
+// The same, in an array that is no longer than it must be.
 fn compare_marks(
     found: Found,
     marks: &[u8; residue_marks::MARK_PLACES],
@@ -87,14 +129,30 @@ fn compare_marks(
     requires { ⌜ FoundMarks found (now marks) × IsLength (at + plungeBytes * markPlaces) ⌝ }
     ensures { λ r. ⌜ Compared (now (file .entry)) at (plungeFields (foundPlunges found (now (marks .entry)))) r ⌝ }
 {
-    let mut bytes = [0u8; RUN_BYTES];
-    put_marks(found, marks, &mut bytes, 0);
-    let length = fields::PLUNGE_BYTES * (found.count as usize);
-    let n = listing_pass::common_run(file, at, &bytes[..length]);
-    Progress {
-        at: at + n,
-        like: n == length,
+    if field_bytes(found, marks) <= FEW_BYTES {
+        let mut few = [0u8; FEW_BYTES];
+        return compare_in(found, marks, &mut few, file, at);
     }
+    let mut bytes = [0u8; RUN_BYTES];
+    compare_in(found, marks, &mut bytes, file, at)
+}
+
+// Writes the fields of a run's plunges from a place on if an output has room for them. Returns the place behind them.
+fn stage_marks(
+    found: Found,
+    marks: &[u8; residue_marks::MARK_PLACES],
+    out: &mut [u8],
+    at: usize,
+) -> usize
+    requires { ⌜ FoundMarks found (now marks) × IsLength (at + plungeBytes * markPlaces) ⌝ }
+    ensures { λ r. ⌜ (r ≡ at + plungeBytes * length (foundPlunges found (now (marks .entry))))
+        × Staged (now (out .entry)) at (plungeFields (foundPlunges found (now (marks .entry)))) (now (out .exit)) ⌝ }
+{
+    let end = at + field_bytes(found, marks);
+    if end <= out.len() {
+        return put_marks(found, marks, out, at);
+    }
+    end
 }
 
 // Sends the plunges of a run at a place: their fields are written, compared or staged there.
@@ -109,28 +167,19 @@ fn send_run(
     requires { ⌜ ToSend pass found (now marks) at (now out) ⌝ }
     ensures { λ r. ⌜ Sent pass (now (file .entry)) at (plungeFields (foundPlunges found (now (marks .entry)))) (now (out .entry)) (now (out .exit)) r ⌝ }
 {
-    if found.count == 0 {
+    if found.deepest == 0 {
         return Progress { at, like: true };
     }
-    let end = at + fields::PLUNGE_BYTES * (found.count as usize);
     match pass {
-        Pass::Write => {
-            put_marks(found, marks, out, at);
-            Progress {
-                at: end,
-                like: true,
-            }
-        }
+        Pass::Write => Progress {
+            at: put_marks(found, marks, out, at),
+            like: true,
+        },
         Pass::Compare => compare_marks(found, marks, file, at),
-        Pass::Stage => {
-            if end <= out.len() {
-                put_marks(found, marks, out, at);
-            }
-            Progress {
-                at: end,
-                like: true,
-            }
-        }
+        Pass::Stage => Progress {
+            at: stage_marks(found, marks, out, at),
+            like: true,
+        },
     }
 }
 
@@ -161,7 +210,7 @@ pub fn send_listing(
             width,
             reach,
             places,
-            count: run.count,
+            deepest: run.deepest,
         };
         let sent = send_run(pass, found, &marks, file, out, place);
         if !sent.like {

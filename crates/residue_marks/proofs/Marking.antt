@@ -1,41 +1,35 @@
 -- Laws of sweeps: nothing yet, one place more, the same by other names; the windows of a map that is 0 along its border; stretches without a mark.
 use mathlib.Core.Path.{_≡_, refl, sym, ap, ap₂, _∙_, subst}
 use mathlib.Core.Bool.{Bool, true, false, cond}
-use mathlib.Core.List.{List, [], _∷_}
+use mathlib.Core.List.{List, [], _∷_, _++_, append-assoc, append-nil}
 use Prim.Native.Nat.{ℕ, zero, suc, _+_, _*_, _-_, _%_, _/_, _≤_, _<_, max}
 use native.Mathlib.Omega.{arith}
 use native.Mathlib.Decide.{decLe}
 use native.Mathlib.Nat.{suc-mul, mul-le-mul-right, mod-lt, div-add-mod', div-lt-iff-lt-mul}
 use native.Mathlib.Numerals.{add-one}
-use borrow.Author.Tests.{lt-ltb, le-ltb}
+use borrow.Author.Tests.{le-ltb, eq-eqb}
 use lib.Bits.{bitOr, or-add-and, and-le-l, and-le-r}
 use lib.Dec.{eqb, ltb}
-use lib.ListN.{length, getD, set}
-use lib.Seq.{getD-set-same, getD-set-other}
+use lib.ListN.{length, getD, set, take, length-set}
+use lib.Seq.{getD-set-same, getD-set-other, take-set-le, take-suc-set}
 use Rattle.geometry.specs.declared.Head.{Head}
 use Rattle.geometry.specs.Plane.{Cell, cell, west, east, north, south}
 use Rattle.geometry.specs.Plate.{area, at}
 use Rattle.theory.proofs.Plate.{at-cell}
+use Rattle.theory.proofs.Lists.{gather-split, gather-more, gather-nil, gather-same}
 use Rattle.window.specs.Windows.{windowOf, windowMin, windowMax}
 use Rattle.window.specs.Places.{windowIn}
 use Rattle.window.proofs.Windows.{three, window-min-near, window-max-near}
 use Rattle.buffers.specs.Margin.{Margin}
 use Rattle.buffers.specs.Fill.{Filled}
 use Rattle.buffers.proofs.Fill.{filled-none, filled-more, filled-as}
-use Rattle.residue_marks.specs.Marks.{markOf, counted, placeCell, lowIn, highIn, lowNear, highNear, tally, marksOf, Sweep, Unmarked}
+use Rattle.residue_marks.specs.Marks.{markOf, counted, placeCell, lowIn, highIn, lowNear, highNear, tally, marksOf, Sweep, Unmarked, onPlace, markedPlaces, Noted}
 
 -- ---- sweeps
 
 -- a place of a plate lies in one of its rows
 pub place-row : (n w h : ℕ) → 1 ≤ w → n < h * w → n / w < h
 place-row n w h a b = div-lt-iff-lt-mul a .1 b
-
-pub counted-small : (v : ℕ) → counted v ≤ 1
-counted-small v = go (eqb v 0)
-  where
-    go : (t : Bool) → cond t 0 1 ≤ 1
-    go true = omega arith
-    go false = omega arith
 
 module _ (low high : ℕ → ℕ) (start : ℕ) (prev marks : List ℕ) where
   pub sweep-none : Sweep low high start 0 prev prev marks marks 0 0
@@ -44,17 +38,16 @@ module _ (low high : ℕ → ℕ) (start : ℕ) (prev marks : List ℕ) where
       record {
         next = subst (λ (n : ℕ). Filled low start n prev prev) k (filled-none low start prev);
         marked = filled-none _ 0 marks;
-        counts = refl;
-        few = omega arith;
+        deep = λ i a. absurd (omega arith);
         under = λ n a b. absurd (omega arith);
       }
 
   -- one place more
-  pub sweep-more : (i v l u t top : ℕ) (prev′ marks′ : List ℕ) (count : ℕ) → Sweep low high start i prev prev′ marks marks′ count top
+  pub sweep-more : (i v l u t deepest top : ℕ) (prev′ marks′ : List ℕ) → Sweep low high start i prev prev′ marks marks′ deepest top
       → start + i < length prev → i < length marks → v ≡ markOf (getD prev′ (start + i) 0) (high (start + i)) → l ≡ low (start + i)
-      → u ≡ counted v → t ≡ max top l
-      → Sweep low high start (i + 1) prev (set prev′ (start + i) l) marks (set marks′ i v) (count + u) t
-  sweep-more i v l u t top prev′ marks′ count s a b e g o q =
+      → u ≡ max deepest v → t ≡ max top l
+      → Sweep low high start (i + 1) prev (set prev′ (start + i) l) marks (set marks′ i v) u t
+  sweep-more i v l u t deepest top prev′ marks′ s a b e g o q =
       let here : getD prev′ (start + i) 0 ≡ getD prev (start + i) 0 = s .next .over (start + i) (omega arith) in
       let is : v ≡ marksOf high start prev i = e ∙ ap (λ (d : ℕ). markOf d (high (start + i))) here in
       let k : start + i + 1 ≡ start + (i + 1) = omega arith in
@@ -62,36 +55,34 @@ module _ (low high : ℕ → ℕ) (start : ℕ) (prev marks : List ℕ) where
         next = subst (λ (n : ℕ). Filled low start n prev (set prev′ (start + i) l)) k
             (filled-more low start (start + i) l prev prev′ (s .next) (omega arith) a g);
         marked = filled-more _ 0 i v marks marks′ (s .marked) (omega arith) b is;
-        counts = omega (arith, s .counts, o, ap counted is, ap (tally (marksOf high start prev)) (add-one i));
-        few = omega (arith, s .few, counted-small v, o);
+        deep = λ j c. marked′ j c (decLe i j);
         under = λ n c d. in-turn n c d (decLe (start + i) n);
       }
     where
+      marked′ : (j : ℕ) → j < i + 1 → Dec (i ≤ j) → getD (set marks′ i v) j 0 ≤ u
+      marked′ j c (yes h) = let k : j ≡ i = omega arith in rw k (omega (arith, getD-set-same marks′ i v 0 (omega (arith, s .marked .same))))
+      marked′ j c (no h) = omega (arith, getD-set-other marks′ i j v 0 (omega arith), s .deep j (omega arith))
+
       in-turn : (n : ℕ) → start ≤ n → n < start + (i + 1) → Dec (start + i ≤ n) → getD (set prev′ (start + i) l) n 0 ≤ t
       in-turn n c d (yes h) = let k : n ≡ start + i = omega arith in
           rw k (omega (arith, getD-set-same prev′ (start + i) l 0 (omega (arith, s .next .same))))
       in-turn n c d (no h) = omega (arith, getD-set-other prev′ (start + i) n l 0 (omega arith), s .under n c (omega arith))
 
-  pub sweep-end : (i number count top : ℕ) (prev′ marks′ : List ℕ) → i ≤ number → number ≤ i → Sweep low high start i prev prev′ marks marks′ count top
-      → Sweep low high start number prev prev′ marks marks′ count top
-  sweep-end i number count top prev′ marks′ a b s =
-      let k : i ≡ number = omega arith in subst (λ (j : ℕ). Sweep low high start j prev prev′ marks marks′ count top) k s
-
-tally-as : (f g : ℕ → ℕ) (n : ℕ) → ((i : ℕ) → i < n → f i ≡ g i) → tally f n ≡ tally g n
-tally-as f g zero e = refl
-tally-as f g (suc n) e = ap₂ (λ (t v : ℕ). t + counted v) (tally-as f g n (λ i h. e i (omega arith))) (e n (omega arith))
+  pub sweep-end : (i number deepest top : ℕ) (prev′ marks′ : List ℕ) → i ≤ number → number ≤ i → Sweep low high start i prev prev′ marks marks′ deepest top
+      → Sweep low high start number prev prev′ marks marks′ deepest top
+  sweep-end i number deepest top prev′ marks′ a b s =
+      let k : i ≡ number = omega arith in subst (λ (j : ℕ). Sweep low high start j prev prev′ marks marks′ deepest top) k s
 
 -- the same with other numbers that agree
-pub sweep-as : (low high low′ high′ : ℕ → ℕ) (start number : ℕ) (prev prev′ marks marks′ : List ℕ) (count top : ℕ)
-    → Sweep low high start number prev prev′ marks marks′ count top
+pub sweep-as : (low high low′ high′ : ℕ → ℕ) (start number : ℕ) (prev prev′ marks marks′ : List ℕ) (deepest top : ℕ)
+    → Sweep low high start number prev prev′ marks marks′ deepest top
     → ((n : ℕ) → start ≤ n → n < start + number → (low n ≡ low′ n) × (high n ≡ high′ n))
-    → Sweep low′ high′ start number prev prev′ marks marks′ count top
-sweep-as low high low′ high′ start number prev prev′ marks marks′ count top s e =
+    → Sweep low′ high′ start number prev prev′ marks marks′ deepest top
+sweep-as low high low′ high′ start number prev prev′ marks marks′ deepest top s e =
     record {
       next = filled-as low low′ start (start + number) prev prev′ (s .next) (λ n a b. e n a b .0);
       marked = filled-as _ _ 0 number marks marks′ (s .marked) (λ i a b. same i (omega arith));
-      counts = s .counts ∙ tally-as _ _ number same;
-      few = s .few;
+      deep = s .deep;
       under = s .under;
     }
   where
@@ -158,6 +149,24 @@ module _ (p : Head) (m : List ℕ) (edge : Margin p 1 m) where
         ap (windowMax (p .kind)) same ∙ window-max-near p m (placeCell w n),
       )
 
+-- ---- marks counted
+
+pub counted-small : (v : ℕ) → counted v ≤ 1
+counted-small v = go (eqb v 0)
+  where
+    go : (t : Bool) → cond t 0 1 ≤ 1
+    go true = omega arith
+    go false = omega arith
+
+pub tally-few : (marks : List ℕ) (n : ℕ) → tally marks n ≤ n
+tally-few marks zero = omega arith
+tally-few marks (suc n) = omega (arith, tally-few marks n, counted-small (getD marks n 0))
+
+-- one place more
+pub count-more : (marks : List ℕ) (from i count v : ℕ) → count + tally marks from ≡ tally marks i → v ≡ counted (getD marks i 0)
+    → count + v + tally marks from ≡ tally marks (i + 1)
+count-more marks from i count v e g = omega (arith, ap (tally marks) (add-one i))
+
 -- ---- stretches without a mark
 
 or-none : (a b : ℕ) → bitOr a b ≡ 0 → (a ≡ 0) × (b ≡ 0)
@@ -175,14 +184,6 @@ module _ (marks : List ℕ) (from : ℕ) where
       go x a b (yes d) = let k : x ≡ to = omega arith in rw k e
       go x a b (no d) = u .none x a (omega arith)
 
-  -- a stretch, and then the next one
-  pub unmarked-on : (mid to : ℕ) → Unmarked marks from mid → Unmarked marks mid to → Unmarked marks from to
-  unmarked-on mid to u v = record { none = λ x a b. go x a b (decLe mid x) }
-    where
-      go : (x : ℕ) → from ≤ x → x < to → Dec (mid ≤ x) → getD marks x 0 ≡ 0
-      go x a b (yes d) = v .none x d b
-      go x a b (no d) = u .none x a (omega arith)
-
   -- a block, place by place: where all its marks together are 0, none is marked
   pub block-none : (all : ℕ) → all ≡ 0 → Unmarked marks from (from + 0)
   block-none all z = record { none = λ x a b. absurd (omega arith) }
@@ -194,3 +195,74 @@ module _ (marks : List ℕ) (from : ℕ) where
 
   pub block-end : (i n all : ℕ) → i ≤ n → n ≤ i → (all ≡ 0 → Unmarked marks from (from + i)) → all ≡ 0 → Unmarked marks from (from + n)
   block-end i n all a b u z = let k : i ≡ n = omega arith in subst (λ (j : ℕ). Unmarked marks from (from + j)) k (u z)
+
+-- ---- marked places noted
+
+module _ (marks : List ℕ) (from count : ℕ) (old : List ℕ) where
+  -- none yet
+  pub noted-none : count ≤ from → Noted marks from from count old count old
+  noted-none h =
+      let e : from - from ≡ 0 = omega arith in
+      record { few = h; same = refl; places = sym (ap (λ (n : ℕ). take count old ++ markedPlaces marks n from) e ∙ append-nil (take count old)) }
+
+  -- one place more
+  pub noted-more : (i n v : ℕ) (mid : List ℕ) → Noted marks from i count old n mid → from ≤ i → n < length mid → v ≡ counted (getD marks i 0)
+      → Noted marks from (i + 1) count old (n + v) (set mid n i)
+  noted-more i n v mid s a b e =
+      record {
+        few = omega (arith, s .few, e, counted-small (getD marks i 0));
+        same = length-set mid n i ∙ s .same;
+        places = go (eqb (getD marks i 0) 0) refl;
+      }
+    where
+      turn : markedPlaces marks (i + 1 - from) from ≡ markedPlaces marks (i - from) from ++ onPlace marks i
+      turn =
+          let k : i + 1 - from ≡ i - from + 1 = omega arith in
+          let l : from + (i - from) ≡ i = omega arith in
+          ap (λ (j : ℕ). markedPlaces marks j from) k ∙ gather-more (i - from) from (onPlace marks)
+          ∙ ap (λ (j : ℕ). markedPlaces marks (i - from) from ++ onPlace marks j) l
+
+      on : (o : List ℕ) (r : ℕ) → take r (set mid n i) ≡ take n mid ++ o → onPlace marks i ≡ o
+          → take r (set mid n i) ≡ take count old ++ markedPlaces marks (i + 1 - from) from
+      on o r g h =
+          g ∙ ap (λ (l : List ℕ). l ++ o) (s .places) ∙ append-assoc (take count old) (markedPlaces marks (i - from) from) o
+          ∙ ap (λ (l : List ℕ). take count old ++ l) (sym (turn ∙ ap (λ (l : List ℕ). markedPlaces marks (i - from) from ++ l) h))
+
+      go : (t : Bool) → eqb (getD marks i 0) 0 ≡ t → take (n + v) (set mid n i) ≡ take count old ++ markedPlaces marks (i + 1 - from) from
+      go true g =
+          let z : v ≡ 0 = e ∙ ap (λ (t : Bool). cond t 0 1) g in
+          let k : n + v ≡ n = omega arith in
+          on [] (n + v) (ap (λ (j : ℕ). take j (set mid n i)) k ∙ take-set-le n mid n i (omega arith) ∙ sym (append-nil (take n mid)))
+          (ap (λ (t : Bool). cond t [] (i ∷ [])) g)
+      go false g =
+          let z : v ≡ 1 = e ∙ ap (λ (t : Bool). cond t 0 1) g in
+          let k : n + v ≡ suc n = omega arith in
+          on (i ∷ []) (n + v) (ap (λ (j : ℕ). take j (set mid n i)) k ∙ take-suc-set mid n i b) (ap (λ (t : Bool). cond t [] (i ∷ [])) g)
+
+  -- a stretch, and then the next one
+  pub noted-on : (mid to r s : ℕ) (half new : List ℕ) → from ≤ mid → mid ≤ to → Noted marks from mid count old r half → Noted marks mid to r half s new
+      → Noted marks from to count old s new
+  noted-on mid to r s half new a b m n =
+      let k : to - from ≡ mid - from + (to - mid) = omega arith in
+      let l : from + (mid - from) ≡ mid = omega arith in
+      record {
+        few = n .few;
+        same = n .same ∙ m .same;
+        places =
+            n .places ∙ ap (λ (o : List ℕ). o ++ markedPlaces marks (to - mid) mid) (m .places)
+            ∙ append-assoc (take count old) (markedPlaces marks (mid - from) from) (markedPlaces marks (to - mid) mid)
+            ∙ ap (λ (o : List ℕ). take count old ++ o)
+            (sym (ap (λ (j : ℕ). markedPlaces marks j from) k ∙ gather-split (mid - from) (to - mid) from (onPlace marks)
+            ∙ ap (λ (j : ℕ). markedPlaces marks (mid - from) from ++ markedPlaces marks (to - mid) j) l));
+      }
+
+  -- a stretch without a mark
+  pub noted-skip : (to : ℕ) → from ≤ to → count ≤ from → Unmarked marks from to → Noted marks from to count old count old
+  noted-skip to a h u =
+      record {
+        few = omega arith;
+        same = refl;
+        places = sym (ap (λ (l : List ℕ). take count old ++ l)
+            (gather-same (to - from) from (onPlace marks) (λ i. []) (λ i b c. let z = u .none i b (omega arith) in rw (eq-eqb _ _ z))
+            ∙ gather-nil (to - from) from (λ i. []) (λ i b. refl)) ∙ append-nil (take count old));
+      }

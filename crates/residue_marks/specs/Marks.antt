@@ -1,12 +1,13 @@
 -- Serves proofs: sweeps over places of two erosions: the marks, how many there are, the erosion that is written; and which mark is next.
 use mathlib.Core.Path.{_≡_}
 use mathlib.Core.Bool.{cond}
-use mathlib.Core.List.{List}
-use Prim.Native.Nat.{ℕ, zero, suc, _+_, _%_, _/_, _≤_, _<_}
+use mathlib.Core.List.{List, [], _∷_, _++_}
+use Prim.Native.Nat.{ℕ, zero, suc, _+_, _-_, _%_, _/_, _≤_, _<_}
 use lib.Dec.{eqb, ltb}
-use lib.ListN.{length, getD}
+use lib.ListN.{length, getD, take}
 use Rattle.geometry.specs.declared.Kind.{Kind}
 use Rattle.geometry.specs.declared.Head.{Head}
+use Rattle.geometry.specs.Lists.{gather}
 use Rattle.geometry.specs.Plane.{Cell, cell}
 use Rattle.geometry.specs.Plate.{area, at}
 use Rattle.window.specs.Windows.{windowMin, windowMax}
@@ -17,9 +18,9 @@ use Rattle.buffers.specs.Fill.{Filled}
 use Rattle.buffers.specs.Runs.{Interior}
 use Rattle.residue_marks.specs.declared.Places.{Places}
 
--- the places of an array of marks, more than a run has: so the count of a run's marks is a byte
+-- the places of an array of marks, more than a run has
 abbrev pub markPlaces : ℕ
-markPlaces = 256
+markPlaces = 2048
 
 -- the places passed over at once
 abbrev pub block : ℕ
@@ -66,30 +67,50 @@ lowNear p m n = lowestNear (p .kind) (at p m) (placeCell (p .width) n)
 abbrev pub highNear : Head → List ℕ → ℕ → ℕ
 highNear p m n = highestNear (p .kind) (at p m) (placeCell (p .width) n)
 
--- how many of f 0, f 1, … f (n - 1) are marks
-abbrev pub tally : (ℕ → ℕ) → ℕ → ℕ
-tally f zero = 0
-tally f (suc n) = tally f n + counted (f n)
-
 -- the marks of places from one on, of erosions of which the second's highest about a place is known
 abbrev pub marksOf : (ℕ → ℕ) → ℕ → List ℕ → ℕ → ℕ
 marksOf high start prev i = markOf (getD prev (start + i) 0) (high (start + i))
 
--- a sweep over some places from one on: the lowest about each is written, each is marked; how many are, and a number no lower than any written
-pub record Sweep (low high : ℕ → ℕ) (start number : ℕ) (prev prev′ marks marks′ : List ℕ) (count top : ℕ) : Type 0 where
+-- a sweep over some places from one on: the lowest about each is written, none above `top`, and each is marked, none above `deepest`
+pub record Sweep (low high : ℕ → ℕ) (start number : ℕ) (prev prev′ marks marks′ : List ℕ) (deepest top : ℕ) : Type 0 where
   pub next : Filled low start (start + number) prev prev′
   pub marked : Filled (marksOf high start prev) 0 number marks marks′
-  pub counts : count ≡ tally (marksOf high start prev) number
-  pub few : count ≤ number
+  pub deep : (i : ℕ) → i < number → getD marks′ i 0 ≤ deepest
   pub under : (n : ℕ) → start ≤ n → n < start + number → getD prev′ n 0 ≤ top
+
+-- how many marks stand before place n of an array
+abbrev pub tally : List ℕ → ℕ → ℕ
+tally marks zero = 0
+tally marks (suc n) = tally marks n + counted (getD marks n 0)
+
+-- places of an array of marks, few enough that their marks are counted in a byte
+pub record CountRun (from to : ℕ) (marks : List ℕ) : Type 0 where
+  pub ordered : from ≤ to
+  pub within : to ≤ markPlaces
+  pub few : to ≤ from + 255
+  pub size : length marks ≡ markPlaces
 
 -- no place from one up to another is marked
 pub record Unmarked (marks : List ℕ) (from to : ℕ) : Type 0 where
   pub none : (x : ℕ) → from ≤ x → x < to → getD marks x 0 ≡ 0
 
--- r is the first marked place from one on, or `to` if none before it is marked
-pub record NextMark (marks : List ℕ) (from to r : ℕ) : Type 0 where
-  pub onward : from ≤ r
-  pub within : r ≤ to
-  pub passed : Unmarked marks from r
-  pub marked : r < to → getD marks r 0 ≡ 0 → ⊥
+-- a place where it is marked; the marked ones of n places from one on
+abbrev pub onPlace : List ℕ → ℕ → List ℕ
+onPlace marks i = cond (eqb (getD marks i 0) 0) [] (i ∷ [])
+
+abbrev pub markedPlaces : List ℕ → ℕ → ℕ → List ℕ
+markedPlaces marks n from = gather n from (onPlace marks)
+
+-- what noting places asks: no more are noted than lie before the first
+pub record NotePlaces (from to count : ℕ) (marks noted : List ℕ) : Type 0 where
+  pub ordered : from ≤ to
+  pub within : to ≤ markPlaces
+  pub few : count ≤ from
+  pub size : length marks ≡ markPlaces
+  pub room : length noted ≡ markPlaces
+
+-- the marked places from one up to another stand behind those noted before
+pub record Noted (marks : List ℕ) (from to count : ℕ) (old : List ℕ) (r : ℕ) (new : List ℕ) : Type 0 where
+  pub few : r ≤ to
+  pub same : length new ≡ length old
+  pub places : take r new ≡ take count old ++ markedPlaces marks (to - from) from

@@ -6,14 +6,17 @@ ghost use mathlib.Core.Path.{_≡_};
 ghost use Prim.Native.Nat.{_+_, _≤_};
 ghost use lib.ListN.{length};
 ghost use Rattle.residue_marks.specs.Marks.{markPlaces, block, RunBuffers, SweepBuffers, markOf, counted, lowIn, highIn, lowNear, highNear};
-ghost use Rattle.residue_marks.specs.Marks.{Sweep, Unmarked, NextMark};
+ghost use Rattle.residue_marks.specs.Marks.{Sweep, CountRun, tally, Unmarked, NotePlaces, Noted};
 ghost use Rattle.buffers.specs.Margin.{Margin};
 
 // The marks of a run are held in an array of this length.
-pub const MARK_PLACES: usize = 256;
+pub const MARK_PLACES: usize = 2048;
 
-// The places swept at once where their windows lie in the map: a multiple of 16, and few enough that their count is a byte.
-pub const RUN: usize = 240;
+// The places swept at once where their windows lie in the map: a multiple of 16.
+pub const RUN: usize = 1920;
+
+// The marks counted at once: few enough that their number is a byte.
+const COUNTED: usize = 240;
 
 // The places passed over at once where none of them is marked.
 const BLOCK: usize = 8;
@@ -24,9 +27,9 @@ pub struct Places {
     pub number: usize,
 }
 
-// What a sweep found: how many places are marked, and a number no lower than any that it wrote.
+// What a sweep found: a number no lower than any of its marks, and one no lower than any number that it wrote.
 pub struct Swept {
-    pub count: u8,
+    pub deepest: u8,
     pub top: u8,
 }
 
@@ -35,13 +38,6 @@ fn mark(depth: u8, highest: u8) -> u8
     ensures { λ r. ⌜ r ≡ markOf depth highest ⌝ }
 {
     if highest < depth { depth } else { 0 }
-}
-
-// 1 for a mark, 0 for none.
-fn count_of(mark: u8) -> u8
-    ensures { λ r. ⌜ r ≡ counted mark ⌝ }
-{
-    if mark == 0 { 0 } else { 1 }
 }
 
 // Sweeps places with the nine bytes about each for its window.
@@ -55,11 +51,11 @@ fn sweep_run(
 ) -> Swept
     requires { ⌜ RunBuffers width places (now prev) (now cur) (now marks) ⌝ }
     ensures { λ r. ⌜ Sweep (lowIn kind width (now (cur .entry))) (highIn kind width (now (cur .entry))) (places .start) (places .number)
-        (now (prev .entry)) (now (prev .exit)) (now (marks .entry)) (now (marks .exit)) (r .count) (r .top) ⌝ }
+        (now (prev .entry)) (now (prev .exit)) (now (marks .entry)) (now (marks .exit)) (r .deepest) (r .top) ⌝ }
 {
     let start = places.start;
     let number = places.number;
-    let mut count = 0u8;
+    let mut deepest = 0u8;
     let mut top = 0u8;
     let mut i = 0;
     while i < number {
@@ -69,11 +65,11 @@ fn sweep_run(
         let v = mark(prev[n], window::window_max(kind, win));
         marks[i] = v;
         prev[n] = low;
-        count += count_of(v);
+        deepest = window::higher(deepest, v);
         top = window::higher(top, low);
         i += 1;
     }
-    Swept { count, top }
+    Swept { deepest, top }
 }
 
 // Sweeps any places, each cell by its own window.
@@ -86,13 +82,13 @@ fn sweep_cells(
 ) -> Swept
     requires { ⌜ SweepBuffers head places (now prev) (now cur) (now marks) ⌝ }
     ensures { λ r. ⌜ Sweep (lowNear head (now (cur .entry))) (highNear head (now (cur .entry))) (places .start) (places .number)
-        (now (prev .entry)) (now (prev .exit)) (now (marks .entry)) (now (marks .exit)) (r .count) (r .top) ⌝ }
+        (now (prev .entry)) (now (prev .exit)) (now (marks .entry)) (now (marks .exit)) (r .deepest) (r .top) ⌝ }
 {
     let kind = head.kind;
     let width = head.width as usize;
     let start = places.start;
     let number = places.number;
-    let mut count = 0u8;
+    let mut deepest = 0u8;
     let mut top = 0u8;
     let mut i = 0;
     while i < number {
@@ -102,11 +98,11 @@ fn sweep_cells(
         let v = mark(prev[n], window::window_max(kind, win));
         marks[i] = v;
         prev[n] = low;
-        count += count_of(v);
+        deepest = window::higher(deepest, v);
         top = window::higher(top, low);
         i += 1;
     }
-    Swept { count, top }
+    Swept { deepest, top }
 }
 
 // Sweeps places of erosions of which the second is 0 along the border: by the nine bytes about each where these lie in the map.
@@ -119,7 +115,7 @@ pub fn sweep_places(
 ) -> Swept
     requires { ⌜ SweepBuffers head places (now prev) (now cur) (now marks) × Margin head 1 (now cur) ⌝ }
     ensures { λ r. ⌜ Sweep (lowNear head (now (cur .entry))) (highNear head (now (cur .entry))) (places .start) (places .number)
-        (now (prev .entry)) (now (prev .exit)) (now (marks .entry)) (now (marks .exit)) (r .count) (r .top) ⌝ }
+        (now (prev .entry)) (now (prev .exit)) (now (marks .entry)) (now (marks .exit)) (r .deepest) (r .top) ⌝ }
 {
     let kind = head.kind;
     let width = head.width as usize;
@@ -131,6 +127,42 @@ pub fn sweep_places(
         return sweep_cells(head, places, prev, cur, marks);
     }
     sweep_run(kind, width, places, prev, cur, marks)
+}
+
+// 1 for a mark, 0 for none.
+fn count_of(mark: u8) -> u8
+    ensures { λ r. ⌜ r ≡ counted mark ⌝ }
+{
+    if mark == 0 { 0 } else { 1 }
+}
+
+// How many marks there are from one place up to another.
+fn count_run(marks: &[u8; MARK_PLACES], from: usize, to: usize) -> u8
+    requires { ⌜ CountRun from to (now marks) ⌝ }
+    ensures { λ r. ⌜ r + tally (now (marks .entry)) from ≡ tally (now (marks .entry)) to ⌝ }
+{
+    let mut count = 0u8;
+    let mut i = from;
+    while i < to {
+        count += count_of(marks[i]);
+        i += 1;
+    }
+    count
+}
+
+// How many marks there are before a place.
+pub fn count_marks(marks: &[u8; MARK_PLACES], number: usize) -> usize
+    requires { ⌜ (number ≤ markPlaces) × (length (now marks) ≡ markPlaces) ⌝ }
+    ensures { λ r. ⌜ r ≡ tally (now (marks .entry)) number ⌝ }
+{
+    let mut count = 0;
+    let mut i = 0;
+    while i < number {
+        let end = numbers::smaller(number, i + COUNTED);
+        count += count_run(marks, i, end) as usize;
+        i = end;
+    }
+    count
 }
 
 // All marks of a block in one byte, which is 0 only if none is marked.
@@ -147,32 +179,57 @@ fn block_marks(marks: &[u8; MARK_PLACES], from: usize) -> u8
     all
 }
 
-// Passes over blocks without a mark, up to one that has a mark or is not whole.
-fn skip_blocks(marks: &[u8; MARK_PLACES], from: usize, to: usize) -> usize
-    requires { ⌜ (from ≤ to) × (to ≤ markPlaces) × (length (now marks) ≡ markPlaces) ⌝ }
-    ensures { λ r. ⌜ (from ≤ r) × (r ≤ to) × Unmarked (now (marks .entry)) from r ⌝ }
+// Notes the marked places from one up to another in an array that holds some already. Returns how many it holds then.
+fn note_places(
+    marks: &[u8; MARK_PLACES],
+    from: usize,
+    to: usize,
+    noted: &mut [u16; MARK_PLACES],
+    count: usize,
+) -> usize
+    requires { ⌜ NotePlaces from to count (now marks) (now noted) ⌝ }
+    ensures { λ r. ⌜ Noted (now (marks .entry)) from to count (now (noted .entry)) r (now (noted .exit)) ⌝ }
 {
-    let mut x = from;
-    while BLOCK <= to - x {
-        if block_marks(marks, x) != 0 {
-            return x;
-        }
-        x += BLOCK;
+    let mut n = count;
+    let mut i = from;
+    while i < to {
+        noted[n] = i as u16;
+        n += count_of(marks[i]) as usize;
+        i += 1;
     }
-    x
+    n
 }
 
-// The first marked place from one on, or `to` if none before it is marked.
-pub fn next_mark(marks: &[u8; MARK_PLACES], from: usize, to: usize) -> usize
-    requires { ⌜ (from ≤ to) × (to ≤ markPlaces) × (length (now marks) ≡ markPlaces) ⌝ }
-    ensures { λ r. ⌜ NextMark (now (marks .entry)) from to r ⌝ }
+// Notes the marked places of a block, if there are some.
+fn note_block(
+    marks: &[u8; MARK_PLACES],
+    from: usize,
+    noted: &mut [u16; MARK_PLACES],
+    count: usize,
+) -> usize
+    requires { ⌜ NotePlaces from (from + block) count (now marks) (now noted) ⌝ }
+    ensures { λ r. ⌜ Noted (now (marks .entry)) from (from + block) count (now (noted .entry)) r (now (noted .exit)) ⌝ }
 {
-    let mut x = skip_blocks(marks, from, to);
-    while x < to {
-        if marks[x] != 0 {
-            return x;
-        }
-        x += 1;
+    if block_marks(marks, from) == 0 {
+        return count;
     }
-    x
+    note_places(marks, from, from + BLOCK, noted, count)
+}
+
+// Notes the marked places before one, block by block, and returns how many there are.
+pub fn note_marks(
+    marks: &[u8; MARK_PLACES],
+    number: usize,
+    noted: &mut [u16; MARK_PLACES],
+) -> usize
+    requires { ⌜ NotePlaces 0 number 0 (now marks) (now noted) ⌝ }
+    ensures { λ r. ⌜ Noted (now (marks .entry)) 0 number 0 (now (noted .entry)) r (now (noted .exit)) ⌝ }
+{
+    let mut count = 0;
+    let mut i = 0;
+    while BLOCK <= number - i {
+        count = note_block(marks, i, noted, count);
+        i += BLOCK;
+    }
+    note_places(marks, i, number, noted, count)
 }

@@ -51,18 +51,23 @@ mark-length w r n mark = go (eqb mark 0)
     go true = refl
     go false = refl
 
--- how many plunges some marks stand for
-pub tally-length : (w r start : ℕ) (f : ℕ → ℕ) (n : ℕ) → length (gather n 0 (λ i. onMark w r (start + i) (f i))) ≡ tally f n
-tally-length w r start f zero = refl
-tally-length w r start f (suc n) =
-    ap (λ (k : ℕ). length (gather k 0 (λ i. onMark w r (start + i) (f i)))) (sym (add-one n))
-    ∙ ap length (gather-turn (λ i. onMark w r (start + i) (f i)) n)
+-- how many plunges the marks of an array stand for
+pub tally-length : (w r start : ℕ) (marks : List ℕ) (n : ℕ) → length (marksTo n w r start marks) ≡ tally marks n
+tally-length w r start marks zero = refl
+tally-length w r start marks (suc n) =
+    ap (λ (k : ℕ). length (marksTo k w r start marks)) (sym (add-one n))
+    ∙ ap length (gather-turn (λ i. onMark w r (start + i) (getD marks i 0)) n)
     ∙ omega (
       arith,
-      length-append (gather n 0 (λ i. onMark w r (start + i) (f i))) (onMark w r (start + n) (f n)),
-      tally-length w r start f n,
-      mark-length w r (start + n) (f n),
+      length-append (marksTo n w r start marks) (onMark w r (start + n) (getD marks n 0)),
+      tally-length w r start marks n,
+      mark-length w r (start + n) (getD marks n 0),
     )
+
+-- marks that are all 0 stand for nothing
+pub unmarked-none : (w r start n : ℕ) (marks : List ℕ) → ((i : ℕ) → i < n → getD marks i 0 ≡ 0) → marksTo n w r start marks ≡ []
+unmarked-none w r start n marks z =
+    gather-none (λ i. onMark w r (start + i) (getD marks i 0)) n 0 (λ i a b. let e = z i (omega arith) in rw (eq-eqb _ _ e))
 
 -- ---- rows where an erosion is 0
 

@@ -36,7 +36,7 @@ use Rattle.residue_series.specs.declared.Stand.{Stand}
 use Rattle.residue_series.specs.Plunges.{placeListed, soFar, plungeAt, onMark, marksTo}
 use Rattle.residue_series.specs.Stands.{Midway, PairMidway, Level, Standing, PairToSweep, PairSweep, Advanced, Started, RunEnd, Taken, TakenOf}
 use Rattle.residue_series.proofs.Gather.{gather-from}
-use Rattle.residue_series.proofs.Plunges.{mark-listed, tally-length, erosion-north, erosion-south, erosion-gone, row-above, row-beneath, so-far-more, so-far-level, so-far-next, reaches-end}
+use Rattle.residue_series.proofs.Plunges.{mark-listed, unmarked-none, erosion-north, erosion-south, erosion-gone, row-above, row-beneath, so-far-more, so-far-level, so-far-next, reaches-end}
 
 -- ---- one run
 
@@ -62,8 +62,8 @@ module _ (p : Head) (m : List ℕ) (k here n top : ℕ) (prev cur : List ℕ) (m
   pub midway-margin : 1 ≤ k → Margin p 1 cur
   midway-margin h = margin-one p k cur h (held-margin p m k cur (mid .held))
 
-  module _ (number : ℕ) (prev′ marks marks′ : List ℕ) (count t : ℕ)
-      (s : Sweep (lowNear p cur) (highNear p cur) n number prev prev′ marks marks′ count t) where
+  module _ (number : ℕ) (prev′ marks marks′ : List ℕ) (deepest t : ℕ)
+      (s : Sweep (lowNear p cur) (highNear p cur) n number prev prev′ marks marks′ deepest t) where
     -- a sweep leads on to the place after it
     pub midway-sweep : (top′ : ℕ) → top′ ≡ max top t → Midway p m k here (n + number) top′ prev′ cur
     midway-sweep top′ is =
@@ -111,18 +111,15 @@ module _ (p : Head) (m : List ℕ) (k here n top : ℕ) (prev cur : List ℕ) (m
           high = ap (λ (f : Cell → ℕ). highestNear (p .kind) f (placeCell w (n + i))) (fun-ext (mid .held .holds))
               ∙ ap (λ (j : ℕ). highestNear (p .kind) (erosion p m j) (placeCell w (n + i))) next
 
-      -- the marks of a run are its plunges, and are counted
+      -- the marks of a run are its plunges, and none where no mark is above 0
       pub midway-marked : marksTo number w (k - 1) n marks′ ≡ gather number n (placeListed p m (k - 1))
       midway-marked =
           gather-same number 0 _ _
           (λ i a b. ap (onMark w (k - 1) (n + i)) (s .marked .inside i a (omega arith)) ∙ place-mark i (omega arith))
           ∙ sym (gather-from (placeListed p m (k - 1)) number n)
 
-      pub midway-count : count ≡ length (gather number n (placeListed p m (k - 1)))
-      midway-count =
-          s .counts ∙ sym (tally-length w (k - 1) n (marksOf (highNear p cur) n prev) number)
-          ∙ ap length
-          (gather-same number 0 _ _ (λ i a b. place-mark i (omega arith)) ∙ sym (gather-from (placeListed p m (k - 1)) number n))
+      pub midway-none : deepest ≡ 0 → gather number n (placeListed p m (k - 1)) ≡ []
+      midway-none z = sym midway-marked ∙ unmarked-none w (k - 1) n number marks′ (λ i h. omega (arith, s .deep i h))
 
   -- after the last rows that a residue can mark, its turn is over: the buffers stand for the next
   module _ (some : 1 ≤ k) (last : area p ≤ n + (k - 1) * w) where
@@ -184,30 +181,30 @@ module _ (p : Head) (m : List ℕ) (k here n top : ℕ) (a b : List ℕ) (q : Pa
     pair-swept top′ is =
         record {
           even = λ f. subst (λ (l : List ℕ). Midway p m k here (n + s .number) top′ b′ l) (sym (e .even f .0))
-              (midway-sweep p m k here n top b a (q .even f) (s .number) b′ marks marks′ (r .count) (r .top)
-              (subst (λ (j : ℕ). Sweep (lowNear p a) (highNear p a) j (s .number) b b′ marks marks′ (r .count) (r .top)) at-place (e .even f .1)) top′ is);
+              (midway-sweep p m k here n top b a (q .even f) (s .number) b′ marks marks′ (r .deepest) (r .top)
+              (subst (λ (j : ℕ). Sweep (lowNear p a) (highNear p a) j (s .number) b b′ marks marks′ (r .deepest) (r .top)) at-place (e .even f .1)) top′ is);
           odd = λ f. subst (λ (l : List ℕ). Midway p m k here (n + s .number) top′ a′ l) (sym (e .odd f .0))
-              (midway-sweep p m k here n top a b (q .odd f) (s .number) a′ marks marks′ (r .count) (r .top)
-              (subst (λ (j : ℕ). Sweep (lowNear p b) (highNear p b) j (s .number) a a′ marks marks′ (r .count) (r .top)) at-place (e .odd f .1)) top′ is);
+              (midway-sweep p m k here n top a b (q .odd f) (s .number) a′ marks marks′ (r .deepest) (r .top)
+              (subst (λ (j : ℕ). Sweep (lowNear p b) (highNear p b) j (s .number) a a′ marks marks′ (r .deepest) (r .top)) at-place (e .odd f .1)) top′ is);
         }
 
     pub pair-marked : 1 ≤ p .width → 1 ≤ k → n + s .number ≤ area p
         → (marksTo (s .number) (p .width) (k - 1) n marks′ ≡ gather (s .number) n (placeListed p m (k - 1)))
-        × (r .count ≡ length (gather (s .number) n (placeListed p m (k - 1))))
+        × (r .deepest ≡ 0 → gather (s .number) n (placeListed p m (k - 1)) ≡ [])
     pair-marked wide some within = go (mod-cases k)
       where
         go : (k % 2 ≡ 0) ⊎ (k % 2 ≡ 1)
             → (marksTo (s .number) (p .width) (k - 1) n marks′ ≡ gather (s .number) n (placeListed p m (k - 1)))
-            × (r .count ≡ length (gather (s .number) n (placeListed p m (k - 1))))
+            × (r .deepest ≡ 0 → gather (s .number) n (placeListed p m (k - 1)) ≡ [])
         go (inl f) =
-            let t = subst (λ (j : ℕ). Sweep (lowNear p a) (highNear p a) j (s .number) b b′ marks marks′ (r .count) (r .top)) at-place (e .even f .1) in (
-              midway-marked p m k here n top b a (q .even f) (s .number) b′ marks marks′ (r .count) (r .top) t wide some within,
-              midway-count p m k here n top b a (q .even f) (s .number) b′ marks marks′ (r .count) (r .top) t wide some within,
+            let t = subst (λ (j : ℕ). Sweep (lowNear p a) (highNear p a) j (s .number) b b′ marks marks′ (r .deepest) (r .top)) at-place (e .even f .1) in (
+              midway-marked p m k here n top b a (q .even f) (s .number) b′ marks marks′ (r .deepest) (r .top) t wide some within,
+              midway-none p m k here n top b a (q .even f) (s .number) b′ marks marks′ (r .deepest) (r .top) t wide some within,
             )
         go (inr f) =
-            let t = subst (λ (j : ℕ). Sweep (lowNear p b) (highNear p b) j (s .number) a a′ marks marks′ (r .count) (r .top)) at-place (e .odd f .1) in (
-              midway-marked p m k here n top a b (q .odd f) (s .number) a′ marks marks′ (r .count) (r .top) t wide some within,
-              midway-count p m k here n top a b (q .odd f) (s .number) a′ marks marks′ (r .count) (r .top) t wide some within,
+            let t = subst (λ (j : ℕ). Sweep (lowNear p b) (highNear p b) j (s .number) a a′ marks marks′ (r .deepest) (r .top)) at-place (e .odd f .1) in (
+              midway-marked p m k here n top a b (q .odd f) (s .number) a′ marks marks′ (r .deepest) (r .top) t wide some within,
+              midway-none p m k here n top a b (q .odd f) (s .number) a′ marks marks′ (r .deepest) (r .top) t wide some within,
             )
 
   pub pair-next : 1 ≤ k → area p ≤ n + (k - 1) * p .width → PairMidway p m (k + 1) top (k * p .width) 0 a b
@@ -241,12 +238,12 @@ module _ (p : Head) (k : ℕ) (s : Places) (a a′ b b′ marks marks′ : List 
       go (inl f) = record { same = e .even f .1 .next .same; surplus = λ n g. e .even f .1 .next .over n (omega arith) }
       go (inr f) = subst (PlateOnly p b) (sym (e .odd f .0)) (kept-none p b)
 
-  pub swept-marks : (length marks′ ≡ length marks) × (r .count ≤ s .number)
+  pub swept-marks : length marks′ ≡ length marks
   swept-marks = go (mod-cases k)
     where
-      go : (k % 2 ≡ 0) ⊎ (k % 2 ≡ 1) → (length marks′ ≡ length marks) × (r .count ≤ s .number)
-      go (inl f) = (e .even f .1 .marked .same, e .even f .1 .few)
-      go (inr f) = (e .odd f .1 .marked .same, e .odd f .1 .few)
+      go : (k % 2 ≡ 0) ⊎ (k % 2 ≡ 1) → length marks′ ≡ length marks
+      go (inl f) = e .even f .1 .marked .same
+      go (inr f) = e .odd f .1 .marked .same
 
 -- ---- where a series stands after a run
 
@@ -385,7 +382,7 @@ module _ (p : Head) (s : Stand) (a a′ b b′ marks marks′ : List ℕ) (end :
 
   of : (m : List ℕ) → Standing p m s a b → TakenOf p m s a′ b′ marks′ (record {
     places = record { start = s .place; number = end - s .place };
-    count = w .count;
+    deepest = w .deepest;
     next = next;
   })
   of m t =
@@ -393,13 +390,13 @@ module _ (p : Head) (s : Stand) (a a′ b b′ marks marks′ : List ℕ) (end :
       record {
         stands = on m t .stands;
         marked = marked .0;
-        count = marked .1;
+        none = marked .1;
         listed = on m t .listed (run .within) ∙ ap (soFar p m (s .number)) (sym at-end) ∙ so-far-more p m (level .sides .wide) (s .number) (s .place) (end - s .place);
       }
 
   pub taken : (m : List ℕ) → Standing p m s a b → length marks ≡ markPlaces → Taken p s a a′ b b′ marks′ (record {
     places = record { start = s .place; number = end - s .place };
-    count = w .count;
+    deepest = w .deepest;
     next = next;
   })
   taken m t size =
@@ -410,10 +407,9 @@ module _ (p : Head) (s : Stand) (a a′ b b′ marks marks′ : List ℕ) (end :
       record {
         first = swept-first p (s .number) _ a a′ b b′ marks marks′ w swept within;
         second = swept-second p (s .number) _ a a′ b b′ marks marks′ w swept within;
-        size = kept .0 ∙ size;
+        size = kept ∙ size;
         within = within;
         short = omega arith;
-        few = kept .1;
         less = omega (arith, on m t .less (omega arith), left-less (area p) (s .number) (s .place) end (level .last) (run .some) (omega arith));
         step = of;
       }

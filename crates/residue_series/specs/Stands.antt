@@ -74,7 +74,7 @@ pub record PairToSweep (p : Head) (k : ℕ) (s : Places) (a b marks : List ℕ) 
 
 abbrev pub SweepOf : Head → Places → List ℕ → List ℕ → List ℕ → List ℕ → List ℕ → Swept → Type 0
 SweepOf p s prev prev′ cur marks marks′ r =
-    Sweep (lowNear p cur) (highNear p cur) (s .start) (s .number) prev prev′ marks marks′ (r .count) (r .top)
+    Sweep (lowNear p cur) (highNear p cur) (s .start) (s .number) prev prev′ marks marks′ (r .deepest) (r .top)
 
 pub record PairSweep (p : Head) (k : ℕ) (s : Places) (a a′ b b′ marks marks′ : List ℕ) (r : Swept) : Type 0 where
   pub even : k % 2 ≡ 0 → (a′ ≡ a) × SweepOf p s b b′ a marks marks′ r
@@ -108,7 +108,7 @@ runListed p m k s = gather (s .number) (s .start) (placeListed p m (k - 1))
 pub record TakenOf (p : Head) (m : List ℕ) (s : Stand) (a′ b′ marks′ : List ℕ) (r : Run) : Type 0 where
   pub stands : r .next .more ≡ true → Standing p m (r .next) a′ b′
   pub marked : marksTo (r .places .number) (p .width) (s .number - 1) (r .places .start) marks′ ≡ runListed p m (s .number) (r .places)
-  pub count : r .count ≡ length (runListed p m (s .number) (r .places))
+  pub none : r .deepest ≡ 0 → runListed p m (s .number) (r .places) ≡ []
   pub listed : listedTo p m (r .next) ≡ soFar p m (s .number) (s .place) ++ runListed p m (s .number) (r .places)
 
 pub record Taken (p : Head) (s : Stand) (a a′ b b′ marks′ : List ℕ) (r : Run) : Type 0 where
@@ -117,6 +117,5 @@ pub record Taken (p : Head) (s : Stand) (a a′ b b′ marks′ : List ℕ) (r :
   pub size : length marks′ ≡ markPlaces
   pub within : r .places .start + r .places .number ≤ area p
   pub short : r .places .number < markPlaces
-  pub few : r .count ≤ r .places .number
   pub less : left p (r .next) < leftAt p (s .number) (s .place)
   pub step : (m : List ℕ) → Standing p m s a b → TakenOf p m s a′ b′ marks′ r

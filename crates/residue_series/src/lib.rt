@@ -20,10 +20,10 @@ pub struct Stand {
     pub more: bool,
 }
 
-// Some places of a residue, how many of them are marked, and where the series stands after them.
+// Some places of a residue, a number no lower than any of their marks, and where the series stands after them.
 pub struct Run {
     pub places: Places,
-    pub count: u8,
+    pub deepest: u8,
     pub next: Stand,
 }
 
@@ -150,7 +150,7 @@ pub fn next_run(
     let next = advance(head, at, end, window::higher(at.top, swept.top));
     Run {
         places,
-        count: swept.count,
+        deepest: swept.deepest,
         next,
     }
 }

@@ -8,12 +8,11 @@ use lib.ListN.{getD}
 use Rattle.window.specs.Windows.{windowMin, windowMax}
 use Rattle.window.proofs.Windows.{window-min-near, window-max-near}
 use Rattle.residue_marks.specs.Marks.{markOf, placeCell, lowNear, highNear, Sweep}
-use Rattle.residue_marks.proofs.Marking.{place-row, counted-small, sweep-none, sweep-more, sweep-end}
+use Rattle.residue_marks.proofs.Marking.{place-row, sweep-none, sweep-more, sweep-end}
 use Rattle.residue_marks.proofs.sweep_cells.Statement.{statement}
 use Rattle.residue_marks.proofs.sweep_cells.Tie as tie
 use Rattle.residue_marks.proofs.sweep_cells.Reads as reads
 use Rattle.residue_marks.proofs.sweep_cells.Lts as lts
-use Rattle.residue_marks.proofs.count_of.Reads as count-of-reads
 use Rattle.residue_marks.proofs.mark.Reads as mark-reads
 use Rattle.window.proofs.higher.Reads as higher-reads
 use Rattle.window.proofs.window_at.Reads as window-at-reads
@@ -21,10 +20,10 @@ use Rattle.window.proofs.window_max.Reads as window-max-reads
 use Rattle.window.proofs.window_min.Reads as window-min-reads
 
 abbrev Inv-loop : tie.InvT-loop
-Inv-loop head prev₀ cur marks₀ kind width start number count₀ top₀ i₀ prev marks count top i = (i ≤ number) × Sweep (lowNear head cur) (highNear head cur) start i prev₀ prev marks₀ marks count top
+Inv-loop head prev₀ cur marks₀ kind width start number deepest₀ top₀ i₀ prev marks deepest top i = (i ≤ number) × Sweep (lowNear head cur) (highNear head cur) start i prev₀ prev marks₀ marks deepest top
 
 abbrev μ-loop : tie.MeasureT-loop
-μ-loop head prev₀ cur marks₀ kind width start number count₀ top₀ i₀ prev marks count top i = number - i
+μ-loop head prev₀ cur marks₀ kind width start number deepest₀ top₀ i₀ prev marks deepest top i = number - i
 
 -- src/lib.rt:92:17
 cast-width : tie.Need-cast-width Inv-loop μ-loop
@@ -83,16 +82,12 @@ slice-write-prev : tie.Need-slice-write-prev Inv-loop μ-loop
 slice-write-prev c = omega (arith, c .before .before .before .before .before .before .loop .inv .1 .next .same)
 
 -- src/lib.rt:105:18
-count-of-requires : tie.Need-count-of-requires Inv-loop μ-loop
-count-of-requires c κs = search needs
-
--- src/lib.rt:105:9
-add-count : tie.Need-add-count Inv-loop μ-loop
-add-count c = omega (arith, c .before .before .before .before .before .before .before .loop .inv .1 .few, counted-small (c .before .mark .result), c .count-of .ensures)
-
--- src/lib.rt:106:9
 higher-requires : tie.Need-higher-requires Inv-loop μ-loop
 higher-requires c κs = search needs
+
+-- src/lib.rt:106:9
+higher-requires-2 : tie.Need-higher-requires-2 Inv-loop μ-loop
+higher-requires-2 c κs = search needs
 
 -- src/lib.rt:107:9
 add-i : tie.Need-add-i Inv-loop μ-loop
@@ -112,7 +107,7 @@ loop-again c = (
       ∙ window-max-near (c .before .before .before .before .before .before .before .before .before .before .before .before .args .head) (c .before .before .before .before .before .before .before .before .before .before .before .before .args .cur .now) (placeCell (c .before .before .before .before .before .before .before .before .before .before .before .before .args .head .width) (c .before .before .before .before .before .before .before .before .before .before .before .before .args .places .start + c .before .before .before .before .before .before .before .before .loop .i))))
       (c .before .before .before .before .before .window-min .ensures ∙ ap (windowMin (c .before .before .before .before .before .before .before .before .before .before .before .before .args .head .kind)) (c .before .before .before .before .before .before .window-at .ensures)
       ∙ window-min-near (c .before .before .before .before .before .before .before .before .before .before .before .before .args .head) (c .before .before .before .before .before .before .before .before .before .before .before .before .args .cur .now) (placeCell (c .before .before .before .before .before .before .before .before .before .before .before .before .args .head .width) (c .before .before .before .before .before .before .before .before .before .before .before .before .args .places .start + c .before .before .before .before .before .before .before .before .loop .i)))
-      (c .before .count-of .ensures) (c .higher .ensures),
+      (c .before .higher .ensures) (c .higher2 .ensures),
 )
 
 -- src/lib.rt:80:1
@@ -143,9 +138,8 @@ sweep-cells-spec =
     mark-requires
     element-write-marks
     slice-write-prev
-    count-of-requires
-    add-count
     higher-requires
+    higher-requires-2
     add-i
     loop-less
     loop-again

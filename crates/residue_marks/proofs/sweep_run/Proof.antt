@@ -6,12 +6,11 @@ use borrow.Author.Needs.{needs}
 use lib.ListN.{getD}
 use Rattle.window.specs.Windows.{windowMin, windowMax}
 use Rattle.residue_marks.specs.Marks.{markOf, lowIn, highIn, Sweep}
-use Rattle.residue_marks.proofs.Marking.{counted-small, sweep-none, sweep-more, sweep-end}
+use Rattle.residue_marks.proofs.Marking.{sweep-none, sweep-more, sweep-end}
 use Rattle.residue_marks.proofs.sweep_run.Statement.{statement}
 use Rattle.residue_marks.proofs.sweep_run.Tie as tie
 use Rattle.residue_marks.proofs.sweep_run.Reads as reads
 use Rattle.residue_marks.proofs.sweep_run.Lts as lts
-use Rattle.residue_marks.proofs.count_of.Reads as count-of-reads
 use Rattle.residue_marks.proofs.mark.Reads as mark-reads
 use Rattle.window.proofs.higher.Reads as higher-reads
 use Rattle.window.proofs.window_in.Reads as window-in-reads
@@ -19,10 +18,10 @@ use Rattle.window.proofs.window_max.Reads as window-max-reads
 use Rattle.window.proofs.window_min.Reads as window-min-reads
 
 abbrev Inv-loop : tie.InvT-loop
-Inv-loop kind width prev₀ cur marks₀ start number count₀ top₀ i₀ prev marks count top i = (i ≤ number) × Sweep (lowIn kind width cur) (highIn kind width cur) start i prev₀ prev marks₀ marks count top
+Inv-loop kind width prev₀ cur marks₀ start number deepest₀ top₀ i₀ prev marks deepest top i = (i ≤ number) × Sweep (lowIn kind width cur) (highIn kind width cur) start i prev₀ prev marks₀ marks deepest top
 
 abbrev μ-loop : tie.MeasureT-loop
-μ-loop kind width prev₀ cur marks₀ start number count₀ top₀ i₀ prev marks count top i = number - i
+μ-loop kind width prev₀ cur marks₀ start number deepest₀ top₀ i₀ prev marks deepest top i = number - i
 
 -- src/lib.rt:65:5
 loop-holds : tie.Need-loop-holds Inv-loop μ-loop
@@ -61,16 +60,12 @@ slice-write-prev : tie.Need-slice-write-prev Inv-loop μ-loop
 slice-write-prev c = omega (arith, c .before .before .before .before .before .before .loop .inv .1 .next .same)
 
 -- src/lib.rt:72:18
-count-of-requires : tie.Need-count-of-requires Inv-loop μ-loop
-count-of-requires c κs = search needs
-
--- src/lib.rt:72:9
-add-count : tie.Need-add-count Inv-loop μ-loop
-add-count c = omega (arith, c .before .before .before .before .before .before .before .loop .inv .1 .few, counted-small (c .before .mark .result), c .count-of .ensures)
-
--- src/lib.rt:73:9
 higher-requires : tie.Need-higher-requires Inv-loop μ-loop
 higher-requires c κs = search needs
+
+-- src/lib.rt:73:9
+higher-requires-2 : tie.Need-higher-requires-2 Inv-loop μ-loop
+higher-requires-2 c κs = search needs
 
 -- src/lib.rt:74:9
 add-i : tie.Need-add-i Inv-loop μ-loop
@@ -88,7 +83,7 @@ loop-again c = (
       (c .before .before .mark .ensures ∙ ap (markOf (getD (c .before .before .before .before .before .before .before .before .loop .prev) (c .before .before .before .before .before .before .before .before .before .before .before .args .places .start + c .before .before .before .before .before .before .before .before .loop .i) 0))
       (c .before .before .before .window-max .ensures ∙ ap (windowMax (c .before .before .before .before .before .before .before .before .before .before .before .args .kind)) (c .before .before .before .before .before .before .window-in .ensures)))
       (c .before .before .before .before .before .window-min .ensures ∙ ap (windowMin (c .before .before .before .before .before .before .before .before .before .before .before .args .kind)) (c .before .before .before .before .before .before .window-in .ensures))
-      (c .before .count-of .ensures) (c .higher .ensures),
+      (c .before .higher .ensures) (c .higher2 .ensures),
 )
 
 -- src/lib.rt:48:1
@@ -114,9 +109,8 @@ sweep-run-spec =
     mark-requires
     element-write-marks
     slice-write-prev
-    count-of-requires
-    add-count
     higher-requires
+    higher-requires-2
     add-i
     loop-less
     loop-again
