@@ -34,8 +34,17 @@ OURS = "library"
 SHARED = os.path.join(HERE, "..", "target", "libharuseopda.so")
 RUNG = 60
 SIDE = 240
-WANTED = {"listing": 1.5, "drawing": 1.0, "clearance map": 1.0}   # at least so many times as fast as OpenCV
-THIN = 1 / 3                                                      # 13 columns against all depth 1, at most
+WANTED = {"listing": 3.0, "drawing": 1.0, "clearance map": 1.0}   # at least so many times as fast as OpenCV
+NOISE = 2.5                                                       # the same for the listing of noise
+THIN = 1 / 5                                                      # 13 columns against all depth 1, at most
+
+
+# what was tried where listing is slowest, for the page
+TRIED = ["For kind 8 a sweep loads nine vectors and compares sixteen times for 16 cells, and is most of the time where plunges are few. Tried:",
+         "columns first and then along them, which the compiler turns into vectors only as three loops, as slow as the one; runs of 240 places",
+         "instead of 1,920, half as long again. Not tried: two rows at a time, which share a comparison of rows. A list past 32 KiB is climbed for",
+         "twice; to keep its last plunges instead of its first would leave only the early rungs to the second climb (17 of 74 for the texture, 60",
+         "of 84 for the dome, kind 8).", ""]
 
 
 # ---- plates
@@ -241,6 +250,10 @@ def race(contestants, samples, least):
 
 # ---- results
 
+def wanted(call, plate):
+    return NOISE if (call, plate) == ("listing", "noise") else WANTED[call]
+
+
 def short_of(results):
     """What falls short of what is wanted, against the fastest of OpenCV's ways."""
     lines = []
@@ -248,8 +261,8 @@ def short_of(results):
         if call in WANTED:
             who = min((w for w in times if w.startswith("OpenCV") and "alone" not in w), key=lambda w: times[w][0])
             ratio = times[who][0] / times[OURS][0]
-            if ratio < WANTED[call]:
-                lines.append(f"{call}, {plate}, kind {kind}: {ratio:.2f} times as fast as {who}; wanted {WANTED[call]}")
+            if ratio < wanted(call, plate):
+                lines.append(f"{call}, {plate}, kind {kind}: {ratio:.2f} times as fast as {who}; wanted {wanted(call, plate)}")
     return lines
 
 
@@ -352,8 +365,9 @@ def write(results, sides, thin, short, asked, head):
     if asked.maps_only:
         lines += ["Listing and drawing were skipped.", ""]
     lines += [f"- {line}" for line in short] or ["Nothing of what was timed."]
-    lines += ["", "Wanted: listing at least 1.5 times as fast as the fastest OpenCV loop on every plate and kind; clearance and drawing at least",
-              "level; 13 columns listed in at most a third of the time of all depth 1.", ""]
+    lines += ["", f"Wanted: listing at least {WANTED['listing']:g} times as fast as the fastest OpenCV loop on every plate and kind, of noise",
+              f"{NOISE:g} times; clearance and drawing at least level; 13 columns listed in at most a fifth of the time of all depth 1.", ""]
+    lines += TRIED
     behind = slower(results)
     if behind:
         lines += ["Slower than a peer in a call of which nothing is wanted (for rungs of kind 8 OpenCV joins all steps into one large square):", ""]
@@ -432,7 +446,7 @@ def main():
     head = machine()
     results, sides, thin = time_plates(calls, asked), time_sides(calls, asked), time_thin(calls, asked)
     short = short_of(results)
-    short += [f"13 columns, kind {kind}: {ratio:.2f} of all depth 1; wanted at most a third" for kind, ratio in thin.items() if ratio > THIN]
+    short += [f"13 columns, kind {kind}: {ratio:.2f} of all depth 1; wanted at most a fifth" for kind, ratio in thin.items() if ratio > THIN]
     write(results, sides, thin, short, asked, head)
     print("\nfalls short:" + ("".join(f"\n  {line}" for line in short) or " nothing"))
     return 0

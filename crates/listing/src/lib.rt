@@ -52,7 +52,8 @@ fn put_plunges(
     b: &mut [u8],
 )
     requires { ⌜ Puttable head (now relief) (now kept) end (now out) (now a) (now b) ⌝ }
-    ensures { λ _. ⌜ (now (out .exit) ≡ spliced (now (out .entry)) headBytes (plungeFields (listing head largestErosion (now (relief .entry))))) × PlateOnly head (now (a .entry)) (now (a .exit)) × PlateOnly head (now (b .entry)) (now (b .exit)) ⌝ }
+    ensures { λ _. ⌜ (now (out .exit) ≡ spliced (now (out .entry)) headBytes (plungeFields (listing head largestErosion (now (relief .entry)))))
+        × PlateOnly head (now (a .entry)) (now (a .exit)) × PlateOnly head (now (b .entry)) (now (b .exit)) ⌝ }
 {
     if end <= STAGE {
         copy_past_head(kept, out, end);
@@ -61,7 +62,8 @@ fn put_plunges(
     listing_plunges::send_listing(head, Pass::Write, relief, relief, out, a, b);
 }
 
-// Writes the file of a relief's listing to an output. The plunges are counted first, and kept if they are few: an output that is too short is refused untouched.
+// Writes the file of a relief's listing to an output. The plunges are counted first, and kept if they are few: an output that is too short
+// is refused untouched.
 pub fn list_into(
     head: Head,
     relief: &[u8],
@@ -70,7 +72,8 @@ pub fn list_into(
     b: &mut [u8],
 ) -> ListAnswer
     requires { ⌜ Listable head (now relief) (now a) (now b) ⌝ }
-    ensures { λ r. ⌜ ListedInto head (now (relief .entry)) (now (out .entry)) (now (out .exit)) r × PlateOnly head (now (a .entry)) (now (a .exit)) × PlateOnly head (now (b .entry)) (now (b .exit)) ⌝ }
+    ensures { λ r. ⌜ ListedInto head (now (relief .entry)) (now (out .entry)) (now (out .exit)) r
+        × PlateOnly head (now (a .entry)) (now (a .exit)) × PlateOnly head (now (b .entry)) (now (b .exit)) ⌝ }
 {
     let mut kept = [0u8; STAGE];
     let counted = listing_plunges::send_listing(head, Pass::Stage, relief, relief, &mut kept, a, b);

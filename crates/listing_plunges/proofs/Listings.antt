@@ -102,7 +102,8 @@ module _ (pass : Pass) (file : List ℕ) (p : Head) (m old a b : List ℕ) (s : 
       subst (λ (t : Bool). Sent pass file headBytes (plungeFields (cond t (soFar p m (s .number) (s .place)) (listing p largestErosion m))) old mid
       (record { at = place; like = true })) e (l .sent)
 
-  module _ (more : s .more ≡ true) (a″ b″ marks : List ℕ) (run : Run) (taken : Taken p s a′ a″ b′ b″ marks run) (reach : Reach) (is : reach .0 ≡ s .number - 1) where
+  module _ (more : s .more ≡ true) (a″ b″ marks : List ℕ) (run : Run) (taken : Taken p s a′ a″ b′ b″ marks run)
+      (reach : Reach) (is : reach .0 ≡ s .number - 1) where
     of : TakenOf p m s a″ b″ marks run
     of = taken .step m (l .stands more)
 
@@ -183,7 +184,8 @@ module _ (pass : Pass) (file : List ℕ) (p : Head) (m old a b : List ℕ) (s : 
       -- a run that was unlike ends it
       pub listed-stops : t .like ≡ false → Sent pass file headBytes (plungeFields (listing p largestErosion m)) old new t
       listed-stops e =
-          subst (λ (o : List ℕ). Sent pass file headBytes o old new t) (sym (ap plungeFields (after .1) ∙ plungeFields-append (listedTo p m (run .next)) (after .0)))
+          subst (λ (o : List ℕ). Sent pass file headBytes o old new t)
+          (sym (ap plungeFields (after .1) ∙ plungeFields-append (listedTo p m (run .next)) (after .0)))
           (sent-stops pass file headBytes (plungeFields (listedTo p m (run .next))) (plungeFields (after .0)) old new t both e)
 
       pub listed-kept : (length new ≡ length old) × PlateOnly p a a″ × PlateOnly p b b″

@@ -41,7 +41,8 @@ module _ (w r start : ℕ) (marks : List ℕ) where
   places-plunges : (n i : ℕ) → map (notedPlunge w r start marks) (markedPlaces marks n i) ≡ gather n i (λ j. onMark w r (start + j) (getD marks j 0))
   places-plunges zero i = refl
   places-plunges (suc n) i =
-      map-append (notedPlunge w r start marks) (onPlace marks i) (markedPlaces marks n (suc i)) ∙ ap₂ (λ l o. l ++ o) (go (eqb (getD marks i 0) 0)) (places-plunges n (suc i))
+      map-append (notedPlunge w r start marks) (onPlace marks i) (markedPlaces marks n (suc i))
+      ∙ ap₂ (λ l o. l ++ o) (go (eqb (getD marks i 0) 0)) (places-plunges n (suc i))
     where
       go : (t : Bool) → map (notedPlunge w r start marks) (cond t [] (i ∷ [])) ≡ cond t [] (notedPlunge w r start marks i ∷ [])
       go true = refl

@@ -217,11 +217,7 @@ fn note_block(
 }
 
 // Notes the marked places before one, block by block, and returns how many there are.
-pub fn note_marks(
-    marks: &[u8; MARK_PLACES],
-    number: usize,
-    noted: &mut [u16; MARK_PLACES],
-) -> usize
+pub fn note_marks(marks: &[u8; MARK_PLACES], number: usize, noted: &mut [u16; MARK_PLACES]) -> usize
     requires { ⌜ NotePlaces 0 number 0 (now marks) (now noted) ⌝ }
     ensures { λ r. ⌜ Noted (now (marks .entry)) 0 number 0 (now (noted .entry)) r (now (noted .exit)) ⌝ }
 {

@@ -312,7 +312,12 @@ started p m a a′ b b′ v sides h l g f e =
     record {
       more = refl;
       stands = record {
-        level = record { sides = sides; some = omega arith; last = omega arith; place = omega (arith, zero-mul (p .width), mul-le-mul (sides .tall) (sides .wide)) };
+        level = record {
+          sides = sides;
+          some = omega arith;
+          last = omega arith;
+          place = omega (arith, zero-mul (p .width), mul-le-mul (sides .tall) (sides .wide));
+        };
         pair = record { even = λ z. absurd (omega arith); odd = λ z. first };
       };
       listed = refl;
@@ -391,7 +396,8 @@ module _ (p : Head) (s : Stand) (a a′ b b′ marks marks′ : List ℕ) (end :
         stands = on m t .stands;
         marked = marked .0;
         none = marked .1;
-        listed = on m t .listed (run .within) ∙ ap (soFar p m (s .number)) (sym at-end) ∙ so-far-more p m (level .sides .wide) (s .number) (s .place) (end - s .place);
+        listed = on m t .listed (run .within) ∙ ap (soFar p m (s .number)) (sym at-end)
+            ∙ so-far-more p m (level .sides .wide) (s .number) (s .place) (end - s .place);
       }
 
   pub taken : (m : List ℕ) → Standing p m s a b → length marks ≡ markPlaces → Taken p s a a′ b b′ marks′ (record {

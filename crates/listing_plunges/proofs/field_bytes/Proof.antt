@@ -5,21 +5,30 @@ use Rattle.listing_plunges.proofs.Marks.{marks-few}
 use borrow.Author.Needs.{needs}
 use Rattle.listing_plunges.proofs.field_bytes.Statement.{statement}
 use Rattle.listing_plunges.proofs.field_bytes.Tie as tie
-use Rattle.listing_plunges.proofs.field_bytes.Reads as reads
-use Rattle.listing_plunges.proofs.field_bytes.Lts as lts
-use Rattle.residue_marks.proofs.count_marks.Reads as count-marks-reads
 
--- src/lib.rt:94:28
 count-marks-requires : tie.Need-count-marks-requires
 count-marks-requires c κs = search needs
 
--- src/lib.rt:94:5
 mul-result : tie.Need-mul-result
-mul-result c = omega (arith, c .count-marks .ensures, tally-length (c .before .args .found .width) (c .before .args .found .reach .0) (c .before .args .found .places .start) (c .before .args .marks .now) (c .before .args .found .places .number), marks-few (c .before .args .found .places .number) (c .before .args .found .width) (c .before .args .found .reach .0) (c .before .args .found .places .start) (c .before .args .marks .now), c .before .pre .short)
+mul-result c =
+    omega (
+      arith,
+      c .count-marks .ensures,
+      tally-length (c .before .args .found .width) (c .before .args .found .reach .0)
+          (c .before .args .found .places .start) (c .before .args .marks .now) (c .before .args .found .places .number),
+      marks-few (c .before .args .found .places .number) (c .before .args .found .width)
+          (c .before .args .found .reach .0) (c .before .args .found .places .start) (c .before .args .marks .now),
+      c .before .pre .short,
+    )
 
--- src/lib.rt:90:1
 returns : tie.Need-returns
-returns c = omega (arith, c .count-marks .ensures, tally-length (c .before .args .found .width) (c .before .args .found .reach .0) (c .before .args .found .places .start) (c .before .args .marks .now) (c .before .args .found .places .number))
+returns c =
+    omega (
+      arith,
+      c .count-marks .ensures,
+      tally-length (c .before .args .found .width) (c .before .args .found .reach .0)
+          (c .before .args .found .places .start) (c .before .args .marks .now) (c .before .args .found .places .number),
+    )
 
 pub field-bytes-spec : {M : Type 1} → statement M
 field-bytes-spec = tie.close (tie.spec count-marks-requires mul-result returns)

@@ -10,12 +10,6 @@ use Rattle.residue_series.specs.Stands.{left}
 use Rattle.listing_plunges.proofs.Listings.{Listed, listed-start, listed-asks, listed-more, listed-stops, listed-kept, listed-end, run-less}
 use Rattle.listing_plunges.proofs.send_listing.Statement.{statement}
 use Rattle.listing_plunges.proofs.send_listing.Tie as tie
-use Rattle.listing_plunges.proofs.send_listing.Reads as reads
-use Rattle.listing_plunges.proofs.send_listing.Lts as lts
-use Rattle.listing_plunges.proofs.reach_of.Reads as reach-of-reads
-use Rattle.listing_plunges.proofs.send_run.Reads as send-run-reads
-use Rattle.residue_series.proofs.next_run.Reads as next-run-reads
-use Rattle.residue_series.proofs.start.Reads as start-reads
 
 abbrev Inv-loop : tie.InvT-loop
 Inv-loop head pass relief file out₀ a₀ b₀ width marks₀ place₀ stand₀ out a b marks place stand = (length marks ≡ markPlaces) × Listed pass file head relief out₀ a₀ b₀ stand out a b place
@@ -23,95 +17,157 @@ Inv-loop head pass relief file out₀ a₀ b₀ width marks₀ place₀ stand₀
 abbrev μ-loop : tie.MeasureT-loop
 μ-loop head pass relief file out₀ a₀ b₀ width marks₀ place₀ stand₀ out a b marks place stand = left head stand
 
--- src/lib.rt:157:17
 cast-width : tie.Need-cast-width Inv-loop μ-loop
 cast-width c = search needs
 
--- src/lib.rt:160:9
 start-requires : tie.Need-start-requires Inv-loop μ-loop
-start-requires c κs = (
-  c .before .before .before .before .before .before .before .before .pre .0 .sides,
-  record {
-    wide = c .before .before .before .before .before .before .before .before .pre .0 .sides .wide;
-    read = c .before .before .before .before .before .before .before .before .pre .0 .relief;
-    first = c .before .before .before .before .before .before .before .before .pre .0 .first;
-    second = c .before .before .before .before .before .before .before .before .pre .0 .second;
-  },
-)
-
--- src/lib.rt:161:5
-loop-holds : tie.Need-loop-holds Inv-loop μ-loop
-loop-holds c = (refl, listed-start _ _ _ _ _ _ _ _ _ _ (c .before .before .before .before .start .ensures))
-
--- src/lib.rt:162:13
-next-run-requires : tie.Need-next-run-requires Inv-loop μ-loop
-next-run-requires c κs = record {
-  relief = c .before .before .before .before .before .before .before .before .before .before .before .before .before .before .before .before .before .before .args .relief .now;
-  stands = c .before .before .before .before .loop .inv .1 .stands (c .before .before .before .loop-test .taken);
-  size = c .before .before .before .before .loop .inv .0;
-}
-
--- src/lib.rt:163:13
-reach-of-requires : tie.Need-reach-of-requires Inv-loop μ-loop
-reach-of-requires c κs =
-    let level = c .before .before .before .before .before .before .before .before .before .loop .inv .1 .stands (c .before .before .before .before .before .before .before .before .loop-test .taken) .level in
-    (level .some, level .last)
-
--- src/lib.rt:171:13
-send-run-requires : tie.Need-send-run-requires Inv-loop μ-loop
-send-run-requires c κs = listed-asks _ _ _ _ _ _ _ _ _ _ _ _ (c .before .before .before .before .before .before .before .before .before .before .before .before .before .before .before .before .before .before .before .before .before .before .before .before .before .before .before .pre .0 .sides) (c .before .before .before .before .before .before .before .before .before .before .before .before .before .before .before .before .before .before .before .before .before .before .before .before .before .before .before .pre .1) (c .before .before .before .before .before .before .before .before .before .before .before .before .before .loop .inv .1) (c .before .before .before .before .before .before .before .before .before .before .before .before .loop-test .taken) _ _ _ _ (c .before .before .before .before .before .before .before .before .next-run .ensures) _ (c .before .before .before .reach-of .ensures)
-
--- src/lib.rt:173:13
-same-length : tie.Need-same-length Inv-loop μ-loop
-same-length c = listed-kept _ _ _ _ _ _ _ _ _ _ _ _ (c .before .before .before .before .before .before .before .before .before .before .before .before .before .before .before .before .before .before .before .before .before .before .before .before .before .before .before .before .before .before .before .before .pre .0 .sides) (c .before .before .before .before .before .before .before .before .before .before .before .before .before .before .before .before .before .before .before .before .before .before .before .before .before .before .before .before .before .before .before .before .pre .1) (c .before .before .before .before .before .before .before .before .before .before .before .before .before .before .before .before .before .before .loop .inv .1) (c .before .before .before .before .before .before .before .before .before .before .before .before .before .before .before .before .before .loop-test .taken) _ _ _ _ (c .before .before .before .before .before .before .before .before .before .before .before .before .before .next-run .ensures) _ (c .before .before .before .before .before .before .before .before .reach-of .ensures) _ _ (c .before .before .before .before .send-run .ensures) .0
-
--- src/lib.rt:173:13
-same-length-2 : tie.Need-same-length-2 Inv-loop μ-loop
-same-length-2 c = listed-kept _ _ _ _ _ _ _ _ _ _ _ _ (c .before .before .before .before .before .before .before .before .before .before .before .before .before .before .before .before .before .before .before .before .before .before .before .before .before .before .before .before .before .before .before .before .pre .0 .sides) (c .before .before .before .before .before .before .before .before .before .before .before .before .before .before .before .before .before .before .before .before .before .before .before .before .before .before .before .before .before .before .before .before .pre .1) (c .before .before .before .before .before .before .before .before .before .before .before .before .before .before .before .before .before .before .loop .inv .1) (c .before .before .before .before .before .before .before .before .before .before .before .before .before .before .before .before .before .loop-test .taken) _ _ _ _ (c .before .before .before .before .before .before .before .before .before .before .before .before .before .next-run .ensures) _ (c .before .before .before .before .before .before .before .before .reach-of .ensures) _ _ (c .before .before .before .before .send-run .ensures) .1 .same ∙ c .before .before .before .before .before .before .before .before .before .before .before .before .before .before .before .before .before .before .before .before .before .before .before .start .ensures .first .same
-
--- src/lib.rt:173:13
-same-length-3 : tie.Need-same-length-3 Inv-loop μ-loop
-same-length-3 c = listed-kept _ _ _ _ _ _ _ _ _ _ _ _ (c .before .before .before .before .before .before .before .before .before .before .before .before .before .before .before .before .before .before .before .before .before .before .before .before .before .before .before .before .before .before .before .before .pre .0 .sides) (c .before .before .before .before .before .before .before .before .before .before .before .before .before .before .before .before .before .before .before .before .before .before .before .before .before .before .before .before .before .before .before .before .pre .1) (c .before .before .before .before .before .before .before .before .before .before .before .before .before .before .before .before .before .before .loop .inv .1) (c .before .before .before .before .before .before .before .before .before .before .before .before .before .before .before .before .before .loop-test .taken) _ _ _ _ (c .before .before .before .before .before .before .before .before .before .before .before .before .before .next-run .ensures) _ (c .before .before .before .before .before .before .before .before .reach-of .ensures) _ _ (c .before .before .before .before .send-run .ensures) .2 .same ∙ c .before .before .before .before .before .before .before .before .before .before .before .before .before .before .before .before .before .before .before .before .before .before .before .start .ensures .second .same
-
--- src/lib.rt:173:13
-returns : tie.Need-returns Inv-loop μ-loop
-returns c =
-    let kept = listed-kept _ _ _ _ _ _ _ _ _ _ _ _ (c .before .before .before .before .before .before .before .before .before .before .before .before .before .before .before .before .before .before .before .before .before .before .before .before .before .before .before .before .before .before .before .before .pre .0 .sides) (c .before .before .before .before .before .before .before .before .before .before .before .before .before .before .before .before .before .before .before .before .before .before .before .before .before .before .before .before .before .before .before .before .pre .1) (c .before .before .before .before .before .before .before .before .before .before .before .before .before .before .before .before .before .before .loop .inv .1) (c .before .before .before .before .before .before .before .before .before .before .before .before .before .before .before .before .before .loop-test .taken) _ _ _ _ (c .before .before .before .before .before .before .before .before .before .before .before .before .before .next-run .ensures) _ (c .before .before .before .before .before .before .before .before .reach-of .ensures) _ _ (c .before .before .before .before .send-run .ensures) in (
-      listed-stops _ _ _ _ _ _ _ _ _ _ _ _ (c .before .before .before .before .before .before .before .before .before .before .before .before .before .before .before .before .before .before .before .before .before .before .before .before .before .before .before .before .before .before .before .before .pre .0 .sides) (c .before .before .before .before .before .before .before .before .before .before .before .before .before .before .before .before .before .before .before .before .before .before .before .before .before .before .before .before .before .before .before .before .pre .1) (c .before .before .before .before .before .before .before .before .before .before .before .before .before .before .before .before .before .before .loop .inv .1) (c .before .before .before .before .before .before .before .before .before .before .before .before .before .before .before .before .before .loop-test .taken) _ _ _ _ (c .before .before .before .before .before .before .before .before .before .before .before .before .before .next-run .ensures) _ (c .before .before .before .before .before .before .before .before .reach-of .ensures) _ _ (c .before .before .before .before .send-run .ensures) (not-true _ (c .if1 .taken)),
-      kept-more _ _ _ _ (c .before .before .before .before .before .before .before .before .before .before .before .before .before .before .before .before .before .before .before .before .before .before .before .start .ensures .first) (kept .1),
-      kept-more _ _ _ _ (c .before .before .before .before .before .before .before .before .before .before .before .before .before .before .before .before .before .before .before .before .before .before .before .start .ensures .second) (kept .2),
+start-requires c κs =
+    let at-start = c .before .before .before .before .before .before .before .before in (
+      at-start .pre .0 .sides,
+      record { wide = at-start .pre .0 .sides .wide; read = at-start .pre .0 .relief; first = at-start .pre .0 .first; second = at-start .pre .0 .second },
     )
 
--- src/lib.rt:161:5
+loop-holds : tie.Need-loop-holds Inv-loop μ-loop
+loop-holds c =
+    let at-start = c .before .before .before .before in
+    (refl, listed-start _ _ _ _ _ _ _ _ _ _ (at-start .start .ensures))
+
+next-run-requires : tie.Need-next-run-requires Inv-loop μ-loop
+next-run-requires c κs =
+    let at-loop-test = c .before .before .before in
+    let at-loop = at-loop-test .before in
+    let at-start =
+    at-loop .before .before .before .before .before .before .before .before .before .before .before .before .before .before in
+    record {
+      relief = at-start .args .relief .now;
+      stands = at-loop .loop .inv .1 .stands (at-loop-test .loop-test .taken);
+      size = at-loop .loop .inv .0;
+    }
+
+reach-of-requires : tie.Need-reach-of-requires Inv-loop μ-loop
+reach-of-requires c κs =
+    let at-loop-test = c .before .before .before .before .before .before .before .before in
+    let at-loop = at-loop-test .before in
+    let level = at-loop .loop .inv .1 .stands (at-loop-test .loop-test .taken) .level in
+    (level .some, level .last)
+
+send-run-requires : tie.Need-send-run-requires Inv-loop μ-loop
+send-run-requires c κs =
+    let at-reach-of = c .before .before .before in
+    let at-next-run = at-reach-of .before .before .before .before .before in
+    let at-loop-test = at-next-run .before .before .before .before in
+    let at-loop = at-loop-test .before in
+    let at-start =
+    at-loop .before .before .before .before .before .before .before .before .before .before .before .before .before .before in
+    listed-asks _ _ _ _ _ _ _ _ _ _ _ _ (at-start .pre .0 .sides) (at-start .pre .1) (at-loop .loop .inv .1)
+    (at-loop-test .loop-test .taken) _ _ _ _ (at-next-run .next-run .ensures) _ (at-reach-of .reach-of .ensures)
+
+same-length : tie.Need-same-length Inv-loop μ-loop
+same-length c =
+    let at-send-run = c .before .before .before .before in
+    let at-reach-of = at-send-run .before .before .before .before in
+    let at-next-run = at-reach-of .before .before .before .before .before in
+    let at-loop-test = at-next-run .before .before .before .before in
+    let at-loop = at-loop-test .before in
+    let at-start =
+    at-loop .before .before .before .before .before .before .before .before .before .before .before .before .before .before in
+    listed-kept _ _ _ _ _ _ _ _ _ _ _ _ (at-start .pre .0 .sides) (at-start .pre .1) (at-loop .loop .inv .1)
+    (at-loop-test .loop-test .taken) _ _ _ _ (at-next-run .next-run .ensures) _ (at-reach-of .reach-of .ensures) _ _
+    (at-send-run .send-run .ensures) .0
+
+same-length-2 : tie.Need-same-length-2 Inv-loop μ-loop
+same-length-2 c =
+    let at-send-run = c .before .before .before .before in
+    let at-reach-of = at-send-run .before .before .before .before in
+    let at-next-run = at-reach-of .before .before .before .before .before in
+    let at-loop-test = at-next-run .before .before .before .before in
+    let at-loop = at-loop-test .before in
+    let at-start = at-loop .before .before .before .before .before in
+    let at-start-2 = at-start .before .before .before .before .before .before .before .before .before in
+    listed-kept _ _ _ _ _ _ _ _ _ _ _ _ (at-start-2 .pre .0 .sides) (at-start-2 .pre .1) (at-loop .loop .inv .1)
+    (at-loop-test .loop-test .taken) _ _ _ _ (at-next-run .next-run .ensures) _ (at-reach-of .reach-of .ensures) _ _
+    (at-send-run .send-run .ensures) .1 .same ∙ at-start .start .ensures .first .same
+
+same-length-3 : tie.Need-same-length-3 Inv-loop μ-loop
+same-length-3 c =
+    let at-send-run = c .before .before .before .before in
+    let at-reach-of = at-send-run .before .before .before .before in
+    let at-next-run = at-reach-of .before .before .before .before .before in
+    let at-loop-test = at-next-run .before .before .before .before in
+    let at-loop = at-loop-test .before in
+    let at-start = at-loop .before .before .before .before .before in
+    let at-start-2 = at-start .before .before .before .before .before .before .before .before .before in
+    listed-kept _ _ _ _ _ _ _ _ _ _ _ _ (at-start-2 .pre .0 .sides) (at-start-2 .pre .1) (at-loop .loop .inv .1)
+    (at-loop-test .loop-test .taken) _ _ _ _ (at-next-run .next-run .ensures) _ (at-reach-of .reach-of .ensures) _ _
+    (at-send-run .send-run .ensures) .2 .same ∙ at-start .start .ensures .second .same
+
+returns : tie.Need-returns Inv-loop μ-loop
+returns c =
+    let at-send-run = c .before .before .before .before in
+    let at-reach-of = at-send-run .before .before .before .before in
+    let at-next-run = at-reach-of .before .before .before .before .before in
+    let at-loop-test = at-next-run .before .before .before .before in
+    let at-loop = at-loop-test .before in
+    let at-start = at-loop .before .before .before .before .before in
+    let at-start-2 = at-start .before .before .before .before .before .before .before .before .before in
+    let kept =
+    listed-kept _ _ _ _ _ _ _ _ _ _ _ _ (at-start-2 .pre .0 .sides) (at-start-2 .pre .1) (at-loop .loop .inv .1)
+    (at-loop-test .loop-test .taken) _ _ _ _ (at-next-run .next-run .ensures) _ (at-reach-of .reach-of .ensures) _ _
+    (at-send-run .send-run .ensures) in (
+      listed-stops _ _ _ _ _ _ _ _ _ _ _ _ (at-start-2 .pre .0 .sides) (at-start-2 .pre .1) (at-loop .loop .inv .1)
+          (at-loop-test .loop-test .taken) _ _ _ _ (at-next-run .next-run .ensures) _ (at-reach-of .reach-of .ensures) _ _
+          (at-send-run .send-run .ensures) (not-true _ (c .if1 .taken)),
+      kept-more _ _ _ _ (at-start .start .ensures .first) (kept .1),
+      kept-more _ _ _ _ (at-start .start .ensures .second) (kept .2),
+    )
+
 loop-less : tie.Need-loop-less Inv-loop μ-loop
-loop-less c = run-less (c .before .before .before .before .before .before .before .before .before .before .before .before .before .before .before .before .before .before .before .before .before .before .before .before .before .before .before .before .before .before .before .before .before .args .head) (c .before .before .before .before .before .before .before .before .before .before .before .before .before .before .before .before .before .before .before .loop .stand) (c .before .before .before .before .before .before .before .before .before .before .before .before .before .before .next-run .result .next) (c .before .before .before .before .before .before .before .before .before .before .before .before .before .before .before .before .before .before .loop-test .taken) (c .before .before .before .before .before .before .before .before .before .before .before .before .before .before .next-run .ensures .less)
+loop-less c =
+    let at-next-run =
+    c .before .before .before .before .before .before .before .before .before .before .before .before .before .before in
+    let at-loop-test = at-next-run .before .before .before .before in
+    let at-loop = at-loop-test .before in
+    let at-start =
+    at-loop .before .before .before .before .before .before .before .before .before .before .before .before .before .before in
+    run-less (at-start .args .head) (at-loop .loop .stand) (at-next-run .next-run .result .next)
+    (at-loop-test .loop-test .taken) (at-next-run .next-run .ensures .less)
 
--- src/lib.rt:161:5
 loop-again : tie.Need-loop-again Inv-loop μ-loop
-loop-again c = (
-  c .before .before .before .before .before .before .before .before .before .before .before .before .before .before .next-run .ensures .size,
-  listed-more _ _ _ _ _ _ _ _ _ _ _ _ (c .before .before .before .before .before .before .before .before .before .before .before .before .before .before .before .before .before .before .before .before .before .before .before .before .before .before .before .before .before .before .before .before .before .pre .0 .sides) (c .before .before .before .before .before .before .before .before .before .before .before .before .before .before .before .before .before .before .before .before .before .before .before .before .before .before .before .before .before .before .before .before .before .pre .1) (c .before .before .before .before .before .before .before .before .before .before .before .before .before .before .before .before .before .before .before .loop .inv .1) (c .before .before .before .before .before .before .before .before .before .before .before .before .before .before .before .before .before .before .loop-test .taken) _ _ _ _ (c .before .before .before .before .before .before .before .before .before .before .before .before .before .before .next-run .ensures) _ (c .before .before .before .before .before .before .before .before .before .reach-of .ensures) _ _ (c .before .before .before .before .before .send-run .ensures) (not-false _ (c .before .if1 .left)),
-)
+loop-again c =
+    let at-send-run = c .before .before .before .before .before in
+    let at-reach-of = at-send-run .before .before .before .before in
+    let at-next-run = at-reach-of .before .before .before .before .before in
+    let at-loop-test = at-next-run .before .before .before .before in
+    let at-loop = at-loop-test .before in
+    let at-start =
+    at-loop .before .before .before .before .before .before .before .before .before .before .before .before .before .before in (
+      at-next-run .next-run .ensures .size,
+      listed-more _ _ _ _ _ _ _ _ _ _ _ _ (at-start .pre .0 .sides) (at-start .pre .1) (at-loop .loop .inv .1)
+          (at-loop-test .loop-test .taken) _ _ _ _ (at-next-run .next-run .ensures) _ (at-reach-of .reach-of .ensures) _ _
+          (at-send-run .send-run .ensures) (not-false _ (c .before .if1 .left)),
+    )
 
--- src/lib.rt:143:1
 same-length-4 : tie.Need-same-length-4 Inv-loop μ-loop
 same-length-4 c = c .before .loop .inv .1 .same
 
--- src/lib.rt:143:1
 same-length-5 : tie.Need-same-length-5 Inv-loop μ-loop
-same-length-5 c = c .before .loop .inv .1 .first .same ∙ c .before .before .before .before .before .before .start .ensures .first .same
+same-length-5 c =
+    let at-start = c .before .before .before .before .before .before in
+    c .before .loop .inv .1 .first .same ∙ at-start .start .ensures .first .same
 
--- src/lib.rt:143:1
 same-length-6 : tie.Need-same-length-6 Inv-loop μ-loop
-same-length-6 c = c .before .loop .inv .1 .second .same ∙ c .before .before .before .before .before .before .start .ensures .second .same
+same-length-6 c =
+    let at-start = c .before .before .before .before .before .before in
+    c .before .loop .inv .1 .second .same ∙ at-start .start .ensures .second .same
 
--- src/lib.rt:143:1
 returns-2 : tie.Need-returns-2 Inv-loop μ-loop
-returns-2 c = (
-  listed-end _ _ _ _ _ _ _ _ _ _ _ _ (c .before .before .before .before .before .before .before .before .before .before .before .before .before .before .before .pre .0 .sides) (c .before .before .before .before .before .before .before .before .before .before .before .before .before .before .before .pre .1) (c .before .loop .inv .1) (c .loop-test .left),
-  kept-more _ _ _ _ (c .before .before .before .before .before .before .start .ensures .first) (c .before .loop .inv .1 .first),
-  kept-more _ _ _ _ (c .before .before .before .before .before .before .start .ensures .second) (c .before .loop .inv .1 .second),
-)
+returns-2 c =
+    let at-start = c .before .before .before .before .before .before in
+    let at-start-2 = at-start .before .before .before .before .before .before .before .before .before in (
+      listed-end _ _ _ _ _ _ _ _ _ _ _ _ (at-start-2 .pre .0 .sides) (at-start-2 .pre .1) (c .before .loop .inv .1) (c .loop-test .left),
+      kept-more _ _ _ _ (at-start .start .ensures .first) (c .before .loop .inv .1 .first),
+      kept-more _ _ _ _ (at-start .start .ensures .second) (c .before .loop .inv .1 .second),
+    )
 
 pub send-listing-spec : {M : Type 1} → statement M
 send-listing-spec =

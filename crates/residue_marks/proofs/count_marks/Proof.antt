@@ -7,10 +7,6 @@ use Rattle.residue_marks.specs.Marks.{tally}
 use Rattle.residue_marks.proofs.Marking.{tally-few}
 use Rattle.residue_marks.proofs.count_marks.Statement.{statement}
 use Rattle.residue_marks.proofs.count_marks.Tie as tie
-use Rattle.residue_marks.proofs.count_marks.Reads as reads
-use Rattle.residue_marks.proofs.count_marks.Lts as lts
-use Rattle.numbers.proofs.smaller.Reads as smaller-reads
-use Rattle.residue_marks.proofs.count_run.Reads as count-run-reads
 
 abbrev Inv-loop : tie.InvT-loop
 Inv-loop marks number count₀ i₀ count i = (i ≤ number) × (count ≡ tally marks i)
@@ -18,39 +14,44 @@ Inv-loop marks number count₀ i₀ count i = (i ≤ number) × (count ≡ tally
 abbrev μ-loop : tie.MeasureT-loop
 μ-loop marks number count₀ i₀ count i = number - i
 
--- src/lib.rt:160:5
 loop-holds : tie.Need-loop-holds Inv-loop μ-loop
 loop-holds c = (omega arith, omega arith)
 
--- src/lib.rt:161:44
 add-smaller : tie.Need-add-smaller Inv-loop μ-loop
 add-smaller c = omega arith
 
--- src/lib.rt:161:13
 smaller-requires : tie.Need-smaller-requires Inv-loop μ-loop
 smaller-requires c κs = search needs
 
--- src/lib.rt:162:18
 count-run-requires : tie.Need-count-run-requires Inv-loop μ-loop
-count-run-requires c κs = record { ordered = omega (arith, c .smaller .ensures); within = omega (arith, c .smaller .ensures); few = omega (arith, c .smaller .ensures); size = c .before .before .before .pre .1 }
+count-run-requires c κs =
+    let at-start = c .before .before .before in
+    record
+    { ordered = omega (arith, c .smaller .ensures); within = omega (arith, c .smaller .ensures); few = omega (arith, c .smaller .ensures); size = at-start .pre .1 }
 
--- src/lib.rt:162:18
 cast-count : tie.Need-cast-count Inv-loop μ-loop
 cast-count c = search needs
 
--- src/lib.rt:162:9
 add-count : tie.Need-add-count Inv-loop μ-loop
-add-count c = omega (arith, tally-few (c .before .before .before .before .args .marks .now) (c .before .smaller .result), c .before .before .before .loop .inv .1, c .count-run .ensures, c .before .smaller .ensures)
+add-count c =
+    let at-loop = c .before .before .before in
+    let at-start = at-loop .before in
+    omega (
+      arith,
+      tally-few (at-start .args .marks .now) (c .before .smaller .result),
+      at-loop .loop .inv .1,
+      c .count-run .ensures,
+      c .before .smaller .ensures,
+    )
 
--- src/lib.rt:160:5
 loop-less : tie.Need-loop-less Inv-loop μ-loop
 loop-less c = omega (arith, c .before .smaller .ensures)
 
--- src/lib.rt:160:5
 loop-again : tie.Need-loop-again Inv-loop μ-loop
-loop-again c = (omega (arith, c .before .smaller .ensures), omega (arith, c .before .before .before .loop .inv .1, c .count-run .ensures))
+loop-again c =
+    let at-loop = c .before .before .before in
+    (omega (arith, c .before .smaller .ensures), omega (arith, at-loop .loop .inv .1, c .count-run .ensures))
 
--- src/lib.rt:154:1
 returns : tie.Need-returns Inv-loop μ-loop
 returns c =
     let e : c .before .loop .i ≡ c .before .before .args .number = omega arith in

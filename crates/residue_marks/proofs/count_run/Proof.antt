@@ -8,9 +8,6 @@ use Rattle.residue_marks.specs.Marks.{tally}
 use Rattle.residue_marks.proofs.Marking.{counted-small, count-more}
 use Rattle.residue_marks.proofs.count_run.Statement.{statement}
 use Rattle.residue_marks.proofs.count_run.Tie as tie
-use Rattle.residue_marks.proofs.count_run.Reads as reads
-use Rattle.residue_marks.proofs.count_run.Lts as lts
-use Rattle.residue_marks.proofs.count_of.Reads as count-of-reads
 
 abbrev Inv-loop : tie.InvT-loop
 Inv-loop marks from to count₀ i₀ count i = (from ≤ i) × (i ≤ to) × (count + from ≤ i) × (count + tally marks from ≡ tally marks i)
@@ -18,40 +15,43 @@ Inv-loop marks from to count₀ i₀ count i = (from ≤ i) × (i ≤ to) × (co
 abbrev μ-loop : tie.MeasureT-loop
 μ-loop marks from to count₀ i₀ count i = to - i
 
--- src/lib.rt:146:5
 loop-holds : tie.Need-loop-holds Inv-loop μ-loop
 loop-holds c = (omega arith, omega arith, omega arith, omega arith)
 
--- src/lib.rt:147:27
 element-copy-out-count-of : tie.Need-element-copy-out-count-of Inv-loop μ-loop
 element-copy-out-count-of c = omega (arith, c .before .before .pre .within, c .before .before .pre .size)
 
--- src/lib.rt:147:18
 count-of-requires : tie.Need-count-of-requires Inv-loop μ-loop
 count-of-requires c κs = search needs
 
--- src/lib.rt:147:9
 add-count : tie.Need-add-count Inv-loop μ-loop
-add-count c = omega (arith, c .before .before .before .before .pre .few, counted-small (getD (c .before .before .before .before .args .marks .now) (c .before .before .before .loop .i) 0), c .count-of .ensures)
+add-count c =
+    let at-loop = c .before .before .before in
+    let at-start = at-loop .before in
+    omega (
+      arith,
+      at-start .pre .few,
+      counted-small (getD (at-start .args .marks .now) (at-loop .loop .i) 0),
+      c .count-of .ensures,
+    )
 
--- src/lib.rt:148:9
 add-i : tie.Need-add-i Inv-loop μ-loop
-add-i c = omega (arith, c .before .before .before .before .pre .within)
+add-i c = let at-start = c .before .before .before .before in omega (arith, at-start .pre .within)
 
--- src/lib.rt:146:5
 loop-less : tie.Need-loop-less Inv-loop μ-loop
 loop-less c = omega arith
 
--- src/lib.rt:146:5
 loop-again : tie.Need-loop-again Inv-loop μ-loop
-loop-again c = (
-  omega arith,
-  omega arith,
-  omega (arith, counted-small (getD (c .before .before .before .before .args .marks .now) (c .before .before .before .loop .i) 0), c .count-of .ensures),
-  count-more (c .before .before .before .before .args .marks .now) (c .before .before .before .before .args .from) (c .before .before .before .loop .i) (c .before .before .before .loop .count) (c .count-of .result) (c .before .before .before .loop .inv .3) (c .count-of .ensures),
-)
+loop-again c =
+    let at-loop = c .before .before .before in
+    let at-start = at-loop .before in
+    let given = at-start .args in (
+      omega arith,
+      omega arith,
+      omega (arith, counted-small (getD (given .marks .now) (at-loop .loop .i) 0), c .count-of .ensures),
+      count-more (given .marks .now) (given .from) (at-loop .loop .i) (at-loop .loop .count) (c .count-of .result) (at-loop .loop .inv .3) (c .count-of .ensures),
+    )
 
--- src/lib.rt:140:1
 returns : tie.Need-returns Inv-loop μ-loop
 returns c =
     let e : c .before .loop .i ≡ c .before .before .args .to = omega arith in

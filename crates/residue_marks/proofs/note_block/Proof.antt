@@ -4,28 +4,20 @@ use Rattle.residue_marks.proofs.Marking.{noted-skip}
 use borrow.Author.Needs.{needs}
 use Rattle.residue_marks.proofs.note_block.Statement.{statement}
 use Rattle.residue_marks.proofs.note_block.Tie as tie
-use Rattle.residue_marks.proofs.note_block.Reads as reads
-use Rattle.residue_marks.proofs.note_block.Lts as lts
-use Rattle.residue_marks.proofs.block_marks.Reads as block-marks-reads
-use Rattle.residue_marks.proofs.note_places.Reads as note-places-reads
 
--- src/lib.rt:213:8
 block-marks-requires : tie.Need-block-marks-requires
 block-marks-requires c κs = search needs
 
--- src/lib.rt:214:9
 returns : tie.Need-returns
-returns c = noted-skip _ _ _ _ _ (omega arith) (c .before .before .pre .few) (c .before .block-marks .ensures (c .if1 .taken))
+returns c =
+    noted-skip _ _ _ _ _ (omega arith) (c .before .before .pre .few) (c .before .block-marks .ensures (c .if1 .taken))
 
--- src/lib.rt:216:30
 add-note-places : tie.Need-add-note-places
 add-note-places c = search needs
 
--- src/lib.rt:216:5
 note-places-requires : tie.Need-note-places-requires
 note-places-requires c κs = search needs
 
--- src/lib.rt:204:1
 returns-2 : tie.Need-returns-2
 returns-2 c = search needs
 

@@ -6,10 +6,6 @@ use Rattle.residue_marks.specs.Marks.{Noted}
 use Rattle.residue_marks.proofs.Marking.{noted-none, noted-on}
 use Rattle.residue_marks.proofs.note_marks.Statement.{statement}
 use Rattle.residue_marks.proofs.note_marks.Tie as tie
-use Rattle.residue_marks.proofs.note_marks.Reads as reads
-use Rattle.residue_marks.proofs.note_marks.Lts as lts
-use Rattle.residue_marks.proofs.note_block.Reads as note-block-reads
-use Rattle.residue_marks.proofs.note_places.Reads as note-places-reads
 
 abbrev Inv-loop : tie.InvT-loop
 Inv-loop marks number noted₀ count₀ i₀ noted count i = (i ≤ number) × Noted marks 0 i 0 noted₀ count noted
@@ -17,41 +13,43 @@ Inv-loop marks number noted₀ count₀ i₀ noted count i = (i ≤ number) × N
 abbrev μ-loop : tie.MeasureT-loop
 μ-loop marks number noted₀ count₀ i₀ noted count i = number - i
 
--- src/lib.rt:230:5
 loop-holds : tie.Need-loop-holds Inv-loop μ-loop
 loop-holds c = (omega arith, noted-none _ _ _ _ (omega arith))
 
--- src/lib.rt:230:20
 sub-loop : tie.Need-sub-loop Inv-loop μ-loop
 sub-loop c = omega arith
 
--- src/lib.rt:231:9
 note-block-requires : tie.Need-note-block-requires Inv-loop μ-loop
-note-block-requires c κs = 
+note-block-requires c κs =
+    let at-start = c .before .before .before in
     let so-far = c .before .before .loop .inv .1 in
-    record { ordered = omega arith; within = omega (arith, c .before .before .before .pre .within); few = so-far .few; size = c .before .before .before .pre .size; room = so-far .same ∙ c .before .before .before .pre .room }
+    record
+    { ordered = omega arith; within = omega (arith, at-start .pre .within); few = so-far .few; size = at-start .pre .size; room = so-far .same ∙ at-start .pre .room }
 
--- src/lib.rt:232:9
 add-i : tie.Need-add-i Inv-loop μ-loop
 add-i c = omega arith
 
--- src/lib.rt:230:5
 loop-less : tie.Need-loop-less Inv-loop μ-loop
 loop-less c = omega arith
 
--- src/lib.rt:230:5
 loop-again : tie.Need-loop-again Inv-loop μ-loop
-loop-again c = (omega arith, noted-on _ _ _ _ _ _ _ _ _ _ (omega arith) (omega arith) (c .before .before .before .loop .inv .1) (c .note-block .ensures))
+loop-again c =
+    let at-loop = c .before .before .before in (
+      omega arith,
+      noted-on _ _ _ _ _ _ _ _ _ _ (omega arith) (omega arith) (at-loop .loop .inv .1) (c .note-block .ensures),
+    )
 
--- src/lib.rt:234:5
 note-places-requires : tie.Need-note-places-requires Inv-loop μ-loop
-note-places-requires c κs = 
+note-places-requires c κs =
+    let at-start = c .before .before .before in
     let so-far = c .before .before .loop .inv .1 in
-    record { ordered = c .before .before .loop .inv .0; within = c .before .before .before .pre .within; few = so-far .few; size = c .before .before .before .pre .size; room = so-far .same ∙ c .before .before .before .pre .room }
+    record
+    { ordered = c .before .before .loop .inv .0; within = at-start .pre .within; few = so-far .few; size = at-start .pre .size; room = so-far .same ∙ at-start .pre .room }
 
--- src/lib.rt:220:1
 returns : tie.Need-returns Inv-loop μ-loop
-returns c = noted-on _ _ _ _ _ _ _ _ _ _ (omega arith) (c .before .before .before .loop .inv .0) (c .before .before .before .loop .inv .1) (c .note-places .ensures)
+returns c =
+    let at-loop = c .before .before .before in
+    noted-on _ _ _ _ _ _ _ _ _ _ (omega arith) (at-loop .loop .inv .0) (at-loop .loop .inv .1) (c .note-places .ensures)
 
 pub note-marks-spec : {M : Type 1} → statement M
 note-marks-spec =

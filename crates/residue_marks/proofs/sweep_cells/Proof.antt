@@ -11,110 +11,102 @@ use Rattle.residue_marks.specs.Marks.{markOf, placeCell, lowNear, highNe
 use Rattle.residue_marks.proofs.Marking.{place-row, sweep-none, sweep-more, sweep-end}
 use Rattle.residue_marks.proofs.sweep_cells.Statement.{statement}
 use Rattle.residue_marks.proofs.sweep_cells.Tie as tie
-use Rattle.residue_marks.proofs.sweep_cells.Reads as reads
-use Rattle.residue_marks.proofs.sweep_cells.Lts as lts
-use Rattle.residue_marks.proofs.mark.Reads as mark-reads
-use Rattle.window.proofs.higher.Reads as higher-reads
-use Rattle.window.proofs.window_at.Reads as window-at-reads
-use Rattle.window.proofs.window_max.Reads as window-max-reads
-use Rattle.window.proofs.window_min.Reads as window-min-reads
 
 abbrev Inv-loop : tie.InvT-loop
-Inv-loop head prev₀ cur marks₀ kind width start number deepest₀ top₀ i₀ prev marks deepest top i = (i ≤ number) × Sweep (lowNear head cur) (highNear head cur) start i prev₀ prev marks₀ marks deepest top
+Inv-loop head prev₀ cur marks₀ kind width start number deepest₀ top₀ i₀ prev marks deepest top i = (i ≤ number)
+    × Sweep (lowNear head cur) (highNear head cur) start i prev₀ prev marks₀ marks deepest top
 
 abbrev μ-loop : tie.MeasureT-loop
 μ-loop head prev₀ cur marks₀ kind width start number deepest₀ top₀ i₀ prev marks deepest top i = number - i
 
--- src/lib.rt:92:17
 cast-width : tie.Need-cast-width Inv-loop μ-loop
 cast-width c = search needs
 
--- src/lib.rt:98:5
 loop-holds : tie.Need-loop-holds Inv-loop μ-loop
 loop-holds c = (omega arith, sweep-none _ _ _ _ _)
 
--- src/lib.rt:99:17
 add-n : tie.Need-add-n Inv-loop μ-loop
 add-n c = omega arith
 
--- src/lib.rt:100:49
 rem-window-at : tie.Need-rem-window-at Inv-loop μ-loop
 rem-window-at c = omega arith
 
--- src/lib.rt:100:48
 cast-window-at : tie.Need-cast-window-at Inv-loop μ-loop
-cast-window-at c = omega (arith, mod-lt (c .before .before .before .before .before .args .places .start + c .before .loop .i) (c .before .before .before .before .before .pre .wide))
+cast-window-at c =
+    let at-start = c .before .before .before .before .before in
+    omega (arith, mod-lt (at-start .args .places .start + c .before .loop .i) (at-start .pre .wide))
 
--- src/lib.rt:100:69
 div-window-at : tie.Need-div-window-at Inv-loop μ-loop
 div-window-at c = omega arith
 
--- src/lib.rt:100:68
 cast-window-at-2 : tie.Need-cast-window-at-2 Inv-loop μ-loop
-cast-window-at-2 c = omega (arith, place-row (c .before .before .before .before .before .args .places .start + c .before .loop .i) (c .before .before .before .before .before .args .head .width) (c .before .before .before .before .before .args .head .height) (c .before .before .before .before .before .pre .wide) (omega arith))
+cast-window-at-2 c =
+    let at-start = c .before .before .before .before .before in
+    let given = at-start .args in
+    omega (
+      arith,
+      place-row (given .places .start + c .before .loop .i) (given .head .width) (given .head .height)
+          (at-start .pre .wide) (omega arith),
+    )
 
--- src/lib.rt:100:13
 window-at-requires : tie.Need-window-at-requires Inv-loop μ-loop
 window-at-requires c κs = search needs
 
--- src/lib.rt:101:13
 window-min-requires : tie.Need-window-min-requires Inv-loop μ-loop
 window-min-requires c κs = search needs
 
--- src/lib.rt:102:22
 slice-read-mark : tie.Need-slice-read-mark Inv-loop μ-loop
-slice-read-mark c = omega (arith, c .before .before .before .before .loop .inv .1 .next .same)
+slice-read-mark c = let at-loop = c .before .before .before .before in omega (arith, at-loop .loop .inv .1 .next .same)
 
--- src/lib.rt:102:31
 window-max-requires : tie.Need-window-max-requires Inv-loop μ-loop
 window-max-requires c κs = search needs
 
--- src/lib.rt:102:13
 mark-requires : tie.Need-mark-requires Inv-loop μ-loop
 mark-requires c κs = search needs
 
--- src/lib.rt:103:9
 element-write-marks : tie.Need-element-write-marks Inv-loop μ-loop
-element-write-marks c = omega (arith, c .before .before .before .before .before .before .loop .inv .1 .marked .same)
+element-write-marks c =
+    let at-loop = c .before .before .before .before .before .before in
+    omega (arith, at-loop .loop .inv .1 .marked .same)
 
--- src/lib.rt:104:9
 slice-write-prev : tie.Need-slice-write-prev Inv-loop μ-loop
-slice-write-prev c = omega (arith, c .before .before .before .before .before .before .loop .inv .1 .next .same)
+slice-write-prev c =
+    let at-loop = c .before .before .before .before .before .before in
+    omega (arith, at-loop .loop .inv .1 .next .same)
 
--- src/lib.rt:105:18
 higher-requires : tie.Need-higher-requires Inv-loop μ-loop
 higher-requires c κs = search needs
 
--- src/lib.rt:106:9
 higher-requires-2 : tie.Need-higher-requires-2 Inv-loop μ-loop
 higher-requires-2 c κs = search needs
 
--- src/lib.rt:107:9
 add-i : tie.Need-add-i Inv-loop μ-loop
 add-i c = omega arith
 
--- src/lib.rt:98:5
 loop-less : tie.Need-loop-less Inv-loop μ-loop
 loop-less c = omega arith
 
--- src/lib.rt:98:5
 loop-again : tie.Need-loop-again Inv-loop μ-loop
-loop-again c = (
-  omega arith,
-  sweep-more _ _ _ _ _ _ _ _ _ _ _ _ _ _ (c .before .before .before .before .before .before .before .before .loop .inv .1) (omega arith) (omega arith)
-      (c .before .before .mark .ensures ∙ ap (markOf (getD (c .before .before .before .before .before .before .before .before .loop .prev) (c .before .before .before .before .before .before .before .before .before .before .before .before .args .places .start + c .before .before .before .before .before .before .before .before .loop .i) 0))
-      (c .before .before .before .window-max .ensures ∙ ap (windowMax (c .before .before .before .before .before .before .before .before .before .before .before .before .args .head .kind)) (c .before .before .before .before .before .before .window-at .ensures)
-      ∙ window-max-near (c .before .before .before .before .before .before .before .before .before .before .before .before .args .head) (c .before .before .before .before .before .before .before .before .before .before .before .before .args .cur .now) (placeCell (c .before .before .before .before .before .before .before .before .before .before .before .before .args .head .width) (c .before .before .before .before .before .before .before .before .before .before .before .before .args .places .start + c .before .before .before .before .before .before .before .before .loop .i))))
-      (c .before .before .before .before .before .window-min .ensures ∙ ap (windowMin (c .before .before .before .before .before .before .before .before .before .before .before .before .args .head .kind)) (c .before .before .before .before .before .before .window-at .ensures)
-      ∙ window-min-near (c .before .before .before .before .before .before .before .before .before .before .before .before .args .head) (c .before .before .before .before .before .before .before .before .before .before .before .before .args .cur .now) (placeCell (c .before .before .before .before .before .before .before .before .before .before .before .before .args .head .width) (c .before .before .before .before .before .before .before .before .before .before .before .before .args .places .start + c .before .before .before .before .before .before .before .before .loop .i)))
-      (c .before .higher .ensures) (c .higher2 .ensures),
-)
+loop-again c =
+    let at-window-max = c .before .before .before in
+    let at-window-min = at-window-max .before .before in
+    let at-window-at = at-window-min .before in
+    let at-loop = at-window-at .before .before in
+    let at-start = at-loop .before .before .before .before in
+    let given = at-start .args in (
+      omega arith,
+      sweep-more _ _ _ _ _ _ _ _ _ _ _ _ _ _ (at-loop .loop .inv .1) (omega arith) (omega arith)
+          (c .before .before .mark .ensures ∙ ap (markOf (getD (at-loop .loop .prev) (given .places .start + at-loop .loop .i) 0))
+          (at-window-max .window-max .ensures ∙ ap (windowMax (given .head .kind)) (at-window-at .window-at .ensures)
+          ∙ window-max-near (given .head) (given .cur .now) (placeCell (given .head .width) (given .places .start + at-loop .loop .i))))
+          (at-window-min .window-min .ensures ∙ ap (windowMin (given .head .kind)) (at-window-at .window-at .ensures)
+          ∙ window-min-near (given .head) (given .cur .now) (placeCell (given .head .width) (given .places .start + at-loop .loop .i)))
+          (c .before .higher .ensures) (c .higher2 .ensures),
+    )
 
--- src/lib.rt:80:1
 same-length : tie.Need-same-length Inv-loop μ-loop
 same-length c = c .before .loop .inv .1 .next .same
 
--- src/lib.rt:80:1
 returns : tie.Need-returns Inv-loop μ-loop
 returns c = sweep-end _ _ _ _ _ _ _ _ _ _ _ (c .before .loop .inv .0) (c .loop-test .left) (c .before .loop .inv .1)
 

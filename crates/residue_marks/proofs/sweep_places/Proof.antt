@@ -4,74 +4,56 @@ use Rattle.residue_marks.proofs.Marking.{flat-near, sweep-as}
 use borrow.Author.Needs.{needs}
 use Rattle.residue_marks.proofs.sweep_places.Statement.{statement}
 use Rattle.residue_marks.proofs.sweep_places.Tie as tie
-use Rattle.residue_marks.proofs.sweep_places.Reads as reads
-use Rattle.residue_marks.proofs.sweep_places.Lts as lts
-use Rattle.residue_marks.proofs.sweep_cells.Reads as sweep-cells-reads
-use Rattle.residue_marks.proofs.sweep_run.Reads as sweep-run-reads
 
--- src/lib.rt:125:17
 cast-width : tie.Need-cast-width
 cast-width c = search needs
 
--- src/lib.rt:126:18
 cast-cells : tie.Need-cast-cells
 cast-cells c = search needs
 
--- src/lib.rt:126:17
 mul-cells : tie.Need-mul-cells
 mul-cells c = search needs
 
--- src/lib.rt:128:9
 sweep-cells-requires : tie.Need-sweep-cells-requires
 sweep-cells-requires c κs = search needs
 
--- src/lib.rt:128:9
 same-length : tie.Need-same-length
 same-length c = search needs
 
--- src/lib.rt:128:9
 returns : tie.Need-returns
 returns c = search needs
 
--- src/lib.rt:130:16
 add-if2 : tie.Need-add-if2
 add-if2 c = search needs
 
--- src/lib.rt:130:16
 add-if2-2 : tie.Need-add-if2-2
 add-if2-2 c = search needs
 
--- src/lib.rt:130:16
 add-if2-3 : tie.Need-add-if2-3
 add-if2-3 c = search needs
 
--- src/lib.rt:131:9
 sweep-cells-requires-2 : tie.Need-sweep-cells-requires-2
 sweep-cells-requires-2 c κs = search needs
 
--- src/lib.rt:131:9
 same-length-2 : tie.Need-same-length-2
 same-length-2 c = search needs
 
--- src/lib.rt:131:9
 returns-2 : tie.Need-returns-2
 returns-2 c = search needs
 
--- src/lib.rt:133:5
 sweep-run-requires : tie.Need-sweep-run-requires
 sweep-run-requires c κs = search needs
 
--- src/lib.rt:113:1
 same-length-3 : tie.Need-same-length-3
 same-length-3 c = search needs
 
--- src/lib.rt:113:1
 returns-3 : tie.Need-returns-3
 returns-3 c =
-    let at-start = c .before .before .before .before .before .before .before .before .before .before .before .before .before in
+    let at-if2 = c .before .before .before .before .before in
+    let at-if1 = at-if2 .before .before in
+    let at-start = at-if1 .before .before .before .before .before .before in
     sweep-as _ _ _ _ _ _ _ _ _ _ _ _ (c .before .before .sweep-run .ensures)
-    (λ n a b. flat-near (at-start .args .head) (at-start .args .cur .now) (at-start .pre .1) n (at-start .pre .0 .wide)
-    (omega (arith, a, c .before .before .before .before .before .before .before .if1 .left)) (omega (arith, b, c .before .before .before .before .before .if2 .left)))
+    (λ n a b. flat-near (at-start .args .head) (at-start .args .cur .now) (at-start .pre .1) n (at-start .pre .0 .wide) (omega (arith, a, at-if1 .if1 .left)) (omega (arith, b, at-if2 .if2 .left)))
 
 pub sweep-places-spec : {M : Type 1} → statement M
 sweep-places-spec =

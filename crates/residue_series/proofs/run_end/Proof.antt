@@ -4,79 +4,69 @@ use native.Mathlib.Nat.{mul-le-mul, mul-le-mul-right}
 use borrow.Author.Needs.{needs}
 use Rattle.residue_series.proofs.run_end.Statement.{statement}
 use Rattle.residue_series.proofs.run_end.Tie as tie
-use Rattle.residue_series.proofs.run_end.Reads as reads
-use Rattle.residue_series.proofs.run_end.Lts as lts
-use Rattle.numbers.proofs.smaller.Reads as smaller-reads
 
--- src/lib.rt:52:17
 cast-width : tie.Need-cast-width
 cast-width c = search needs
 
--- src/lib.rt:53:18
 cast-cells : tie.Need-cast-cells
 cast-cells c = search needs
 
--- src/lib.rt:53:17
 mul-cells : tie.Need-mul-cells
 mul-cells c = omega (arith, mul-le-mul (c .before .before .pre .sides .low) (c .before .before .pre .sides .narrow))
 
--- src/lib.rt:54:24
 sub-end : tie.Need-sub-end
 sub-end c = search needs
 
--- src/lib.rt:54:23
 mul-end : tie.Need-mul-end
-mul-end c = omega (arith, c .before .before .pre .place, mul-le-mul (c .before .before .pre .sides .low) (c .before .before .pre .sides .narrow))
+mul-end c =
+    omega (
+      arith,
+      c .before .before .pre .place,
+      mul-le-mul (c .before .before .pre .sides .low) (c .before .before .pre .sides .narrow),
+    )
 
--- src/lib.rt:54:15
 sub-end-2 : tie.Need-sub-end-2
 sub-end-2 c = search needs
 
--- src/lib.rt:56:38
 add-smaller : tie.Need-add-smaller
 add-smaller c = search needs
 
--- src/lib.rt:56:9
 smaller-requires : tie.Need-smaller-requires
 smaller-requires c κs = search needs
 
--- src/lib.rt:56:9
 returns : tie.Need-returns
 returns c = search needs
 
--- src/lib.rt:58:17
 add-if2 : tie.Need-add-if2
-add-if2 c = omega (arith, c .before .before .before .pre .place, mul-le-mul (c .before .before .before .pre .sides .low) (c .before .before .before .pre .sides .narrow))
+add-if2 c =
+    let at-start = c .before .before .before in
+    omega (arith, at-start .pre .place, mul-le-mul (at-start .pre .sides .low) (at-start .pre .sides .narrow))
 
--- src/lib.rt:58:17
 add-if2-2 : tie.Need-add-if2-2
-add-if2-2 c = omega (arith, c .before .before .before .pre .place, mul-le-mul (c .before .before .before .pre .sides .low) (c .before .before .before .pre .sides .narrow))
+add-if2-2 c =
+    let at-start = c .before .before .before in
+    omega (arith, at-start .pre .place, mul-le-mul (at-start .pre .sides .low) (at-start .pre .sides .narrow))
 
--- src/lib.rt:59:9
 returns-2 : tie.Need-returns-2
 returns-2 c = search needs
 
--- src/lib.rt:63:26
 add-smaller-2 : tie.Need-add-smaller-2
-add-smaller-2 c = omega (arith, c .before .before .before .before .pre .place, mul-le-mul (c .before .before .before .before .pre .sides .low) (c .before .before .before .before .pre .sides .narrow))
+add-smaller-2 c =
+    let at-start = c .before .before .before .before in
+    omega (arith, at-start .pre .place, mul-le-mul (at-start .pre .sides .low) (at-start .pre .sides .narrow))
 
--- src/lib.rt:63:54
 sub-smaller : tie.Need-sub-smaller
 sub-smaller c = search needs
 
--- src/lib.rt:63:54
 sub-smaller-2 : tie.Need-sub-smaller-2
 sub-smaller-2 c = search needs
 
--- src/lib.rt:63:9
 smaller-requires-2 : tie.Need-smaller-requires-2
 smaller-requires-2 c κs = search needs
 
--- src/lib.rt:61:5
 smaller-requires-3 : tie.Need-smaller-requires-3
 smaller-requires-3 c κs = search needs
 
--- src/lib.rt:48:1
 returns-3 : tie.Need-returns-3
 returns-3 c = search needs
 
