@@ -18,7 +18,7 @@ use Rattle.motion.specs.declared.MotionAnswer.the-variants.{Moves, NoMoves}
 use Rattle.motion.specs.Motions.{motionsIn}
 use Rattle.decimal.specs.Text.{numberText, Put}
 use Rattle.decimal.proofs.Floats.{numberText-short}
-use Rattle.text.proofs.Lines.{puts-puts}
+use Rattle.phrases.proofs.Puts.{puts-puts}
 use Rattle.motion_text.specs.Lines.{changeWord, travelWord, sinkWord, millimetres, motionLine, motionLines, answerLines, linesAt, linesRoom}
 
 -- a blank, then a number that has room behind it

@@ -11,20 +11,20 @@ use Rattle.motion.specs.declared.Motions.{Motions}
 use Rattle.motion.specs.declared.MotionAnswer.{MotionAnswer}
 use Rattle.motion.specs.declared.MotionAnswer.the-variants.{Moves, NoMoves}
 use Rattle.motion.specs.Motions.{motionsIn}
+use Rattle.phrases.specs.Phrases.{ascii}
 use Rattle.decimal.specs.Text.{numberText}
 
--- "change", "stay", "travel", "sink"
 abbrev pub changeWord : List ℕ
-changeWord = 99 ∷ 104 ∷ 97 ∷ 110 ∷ 103 ∷ 101 ∷ []
+changeWord = ascii "change"
 
 abbrev pub stayWord : List ℕ
-stayWord = 115 ∷ 116 ∷ 97 ∷ 121 ∷ []
+stayWord = ascii "stay"
 
 abbrev pub travelWord : List ℕ
-travelWord = 116 ∷ 114 ∷ 97 ∷ 118 ∷ 101 ∷ 108 ∷ []
+travelWord = ascii "travel"
 
 abbrev pub sinkWord : List ℕ
-sinkWord = 115 ∷ 105 ∷ 110 ∷ 107 ∷ []
+sinkWord = ascii "sink"
 
 -- a blank and millimetres
 abbrev pub millimetres : Float → List ℕ

@@ -32,9 +32,9 @@ fn put_one(page: &mut [u8], at: usize, word: &[u8], x: f64) -> usize
     requires { ⌜ at + length (now word ++ millimetres x ++ (10 ∷ [])) ≤ length (now page) ⌝ }
     ensures { λ r. ⌜ Puts (now (page .entry)) at (now (word .entry) ++ millimetres x ++ (10 ∷ [])) (now (page .exit)) r ⌝ }
 {
-    let a = text::put_bytes(page, at, word);
+    let a = phrases::put_bytes(page, at, word);
     let b = put_millimetres(page, a, x);
-    text::put_bytes(page, b, b"\n")
+    phrases::put_bytes(page, b, b"\n")
 }
 
 // A travel has two numbers.
@@ -42,10 +42,10 @@ fn put_travel(page: &mut [u8], at: usize, column: f64, row: f64) -> usize
     requires { ⌜ at + length (motionLine (Motion.Travel column row)) ≤ length (now page) ⌝ }
     ensures { λ r. ⌜ Puts (now (page .entry)) at (motionLine (Motion.Travel column row)) (now (page .exit)) r ⌝ }
 {
-    let a = text::put_bytes(page, at, b"travel");
+    let a = phrases::put_bytes(page, at, b"travel");
     let b = put_millimetres(page, a, column);
     let c = put_millimetres(page, b, row);
-    text::put_bytes(page, c, b"\n")
+    phrases::put_bytes(page, c, b"\n")
 }
 
 // The line of a motion.
@@ -55,7 +55,7 @@ fn put_motion(page: &mut [u8], at: usize, motion: Motion) -> usize
 {
     match motion {
         Motion::Change(width) => put_one(page, at, b"change", width),
-        Motion::Stay => text::put_bytes(page, at, b"stay\n"),
+        Motion::Stay => phrases::put_bytes(page, at, b"stay\n"),
         Motion::Travel(column, row) => put_travel(page, at, column, row),
         Motion::Sink(depth) => put_one(page, at, b"sink", depth),
     }

@@ -21,7 +21,8 @@ use Rattle.reading.proofs.Readable.{length-plungesIn}
 use Rattle.text.specs.declared.Page.{Page}
 use Rattle.text.specs.Text.{plateLine, plungeLine, plungeLines, totalLine, listText}
 use Rattle.text.specs.Pages.{lineAt, lineCount, lineRoom, PageOf}
-use Rattle.text.proofs.Lines.{puts-puts, puts-length, plate-room, plunge-room, total-room}
+use Rattle.phrases.proofs.Puts.{puts-puts, puts-length}
+use Rattle.text.proofs.Lines.{plate-room, plunge-room, total-room}
 
 -- ---- lines by their numbers
 

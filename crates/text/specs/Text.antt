@@ -9,20 +9,20 @@ use Rattle.refusal.specs.declared.Refusal.{Refusal}
 use Rattle.refusal.specs.declared.Verdict.{Verdict}
 use Rattle.refusal.specs.declared.Verdict.the-variants.{Accepted, Refused}
 use Rattle.numerals.specs.Numerals.{numeral}
+use Rattle.phrases.specs.Phrases.{ascii}
 
 -- a number and the character after it: a blank is 32, a line's end 10
 abbrev pub word : ℕ → ℕ → List ℕ
 word n mark = numeral n ++ (mark ∷ [])
 
--- "plate ", "total ", "refused "
 abbrev pub plateWord : List ℕ
-plateWord = 112 ∷ 108 ∷ 97 ∷ 116 ∷ 101 ∷ 32 ∷ []
+plateWord = ascii "plate "
 
 abbrev pub totalWord : List ℕ
-totalWord = 116 ∷ 111 ∷ 116 ∷ 97 ∷ 108 ∷ 32 ∷ []
+totalWord = ascii "total "
 
 abbrev pub refusedWord : List ℕ
-refusedWord = 114 ∷ 101 ∷ 102 ∷ 117 ∷ 115 ∷ 101 ∷ 100 ∷ 32 ∷ []
+refusedWord = ascii "refused "
 
 -- "plate 8 3 3": "it prints kind, width and height"
 abbrev pub plateLine : Head → List ℕ
@@ -50,7 +50,7 @@ refusalLine r = refusedWord ++ word (r .number) 32 ++ word (r .place) 10
 
 -- "tidy": what jobtool prints of a file that the tidy check accepts
 abbrev pub tidyLine : List ℕ
-tidyLine = 116 ∷ 105 ∷ 100 ∷ 121 ∷ 10 ∷ []
+tidyLine = ascii "tidy\n"
 
 -- the text of a verdict on a list: the list's, or the refusal's one line
 abbrev pub answerText : Verdict → Head → List Plunge → List ℕ

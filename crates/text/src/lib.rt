@@ -23,19 +23,6 @@ pub struct Page {
 
 // ---- words
 
-// Bytes at a place; gives the place behind them.
-pub fn put_bytes(page: &mut [u8], at: usize, bytes: &[u8]) -> usize
-    requires { ⌜ at + length (now bytes) ≤ length (now page) ⌝ }
-    ensures { λ r. ⌜ Puts (now (page .entry)) at (now (bytes .entry)) (now (page .exit)) r ⌝ }
-{
-    let mut i = 0;
-    while i < bytes.len() {
-        page[at + i] = bytes[i];
-        i += 1;
-    }
-    at + i
-}
-
 // A number in decimal and the character after it.
 fn put_word(page: &mut [u8], at: usize, n: u64, mark: u8) -> usize
     requires { ⌜ at + length (word n mark) ≤ length (now page) ⌝ }
@@ -54,7 +41,7 @@ fn put_plate(page: &mut [u8], at: usize, head: Head) -> usize
     ensures { λ r. ⌜ Puts (now (page .entry)) at (plateLine head) (now (page .exit)) r ⌝ }
 {
     let kind = head.kind;
-    let a = put_bytes(page, at, b"plate ");
+    let a = phrases::put_bytes(page, at, b"plate ");
     let b = put_word(page, a, kind.byte() as u64, b' ');
     let c = put_word(page, b, head.width as u64, b' ');
     put_word(page, c, head.height as u64, b'\n')
@@ -76,7 +63,7 @@ fn put_total(page: &mut [u8], at: usize, plunges: usize) -> usize
     requires { ⌜ at + length (totalLine plunges) ≤ length (now page) ⌝ }
     ensures { λ r. ⌜ Puts (now (page .entry)) at (totalLine plunges) (now (page .exit)) r ⌝ }
 {
-    let a = put_bytes(page, at, b"total ");
+    let a = phrases::put_bytes(page, at, b"total ");
     put_word(page, a, plunges as u64, b'\n')
 }
 
@@ -85,7 +72,7 @@ pub fn put_refusal(page: &mut [u8], refusal: Refusal) -> usize
     requires { ⌜ 64 ≤ length (now page) ⌝ }
     ensures { λ r. ⌜ Puts (now (page .entry)) 0 (refusalLine refusal) (now (page .exit)) r × Counts r (now (page .exit)) ⌝ }
 {
-    let a = put_bytes(page, 0, b"refused ");
+    let a = phrases::put_bytes(page, 0, b"refused ");
     let b = put_word(page, a, refusal.number as u64, b' ');
     put_word(page, b, refusal.place as u64, b'\n')
 }
@@ -95,7 +82,7 @@ pub fn put_tidy(page: &mut [u8]) -> usize
     requires { ⌜ 64 ≤ length (now page) ⌝ }
     ensures { λ r. ⌜ Puts (now (page .entry)) 0 tidyLine (now (page .exit)) r × Counts r (now (page .exit)) ⌝ }
 {
-    put_bytes(page, 0, b"tidy\n")
+    phrases::put_bytes(page, 0, b"tidy\n")
 }
 
 // ---- the text of a file

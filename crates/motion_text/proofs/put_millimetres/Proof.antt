@@ -4,7 +4,7 @@ use Rattle.motion_text.proofs.put_millimetres.Statement.{statement}
 use Rattle.motion_text.proofs.put_millimetres.Tie as tie
 use Rattle.motion_text.proofs.put_millimetres.Reads as reads
 use Rattle.motion_text.proofs.put_millimetres.Lts as lts
-use Rattle.text.proofs.Lines.{puts-length}
+use Rattle.phrases.proofs.Puts.{puts-length}
 use Rattle.motion_text.specs.Lines.{millimetres}
 use Rattle.motion_text.proofs.Lines.{millimetres-put}
 use Rattle.decimal.proofs.put_number.Reads as put-number-reads

@@ -12,7 +12,7 @@ use Rattle.motion.specs.declared.Motion.{Motion}
 use Rattle.motion_text.specs.Lines.{motionLine}
 use Rattle.motion_text.proofs.put_one.Reads as put-one-reads
 use Rattle.motion_text.proofs.put_travel.Reads as put-travel-reads
-use Rattle.text.proofs.put_bytes.Reads as put-bytes-reads
+use Rattle.phrases.proofs.put_bytes.Reads as put-bytes-reads
 
 enum-known-motion : tie.Need-enum-known-motion
 enum-known-motion c = search needs

@@ -7,9 +7,9 @@ use Rattle.motion_text.proofs.put_one.Lts as lts
 use mathlib.Core.List.{List, [], _∷_, _++_}
 use Prim.Native.Nat.{ℕ}
 use Rattle.motion_text.specs.Lines.{millimetres}
-use Rattle.text.proofs.Lines.{room-1, room-2, room-3, three-texts}
+use Rattle.phrases.proofs.Puts.{room-1, room-2, room-3, three-texts}
 use Rattle.motion_text.proofs.put_millimetres.Reads as put-millimetres-reads
-use Rattle.text.proofs.put_bytes.Reads as put-bytes-reads
+use Rattle.phrases.proofs.put_bytes.Reads as put-bytes-reads
 
 put-bytes-requires : tie.Need-put-bytes-requires
 put-bytes-requires c κs =

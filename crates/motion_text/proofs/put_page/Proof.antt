@@ -9,7 +9,7 @@ use native.Mathlib.Omega.{arith}
 use Prim.Native.Nat.{_+_, _-_}
 use Rattle.reading.specs.Reading.{total}
 use Rattle.motion_text.specs.Lines.{linesAt, linesRoom}
-use Rattle.text.proofs.Lines.{counts}
+use Rattle.phrases.proofs.Puts.{counts}
 use Rattle.text.proofs.Pages.{Filled, filled-none, filled-more, filled-page}
 use Rattle.motion_text.proofs.put_lines.Reads as put-lines-reads
 

@@ -7,9 +7,9 @@ use Rattle.motion_text.proofs.put_travel.Lts as lts
 use mathlib.Core.List.{List, [], _∷_, _++_}
 use Prim.Native.Nat.{ℕ}
 use Rattle.motion_text.specs.Lines.{millimetres, travelWord}
-use Rattle.text.proofs.Lines.{first-room, next-room, two-texts, room-1, room-2, room-3, three-texts}
+use Rattle.phrases.proofs.Puts.{first-room, next-room, two-texts, room-1, room-2, room-3, three-texts}
 use Rattle.motion_text.proofs.put_millimetres.Reads as put-millimetres-reads
-use Rattle.text.proofs.put_bytes.Reads as put-bytes-reads
+use Rattle.phrases.proofs.put_bytes.Reads as put-bytes-reads
 
 slice-aggregate-put-bytes : tie.Need-slice-aggregate-put-bytes
 slice-aggregate-put-bytes c = search needs

@@ -11,9 +11,9 @@ use lib.ListN.{length}
 use Rattle.numerals.specs.Numerals.{Puts}
 use Rattle.geometry.specs.Forms.{kindByte}
 use Rattle.text.specs.Text.{word, plateWord}
-use Rattle.text.proofs.Lines.{first-room, next-room, two-texts, room-1, room-2, room-3, three-texts}
+use Rattle.phrases.proofs.Puts.{first-room, next-room, two-texts, room-1, room-2, room-3, three-texts}
 use Rattle.geometry.proofs.Kind.byte.Reads as byte-reads
-use Rattle.text.proofs.put_bytes.Reads as put-bytes-reads
+use Rattle.phrases.proofs.put_bytes.Reads as put-bytes-reads
 use Rattle.text.proofs.put_word.Reads as put-word-reads
 
 slice-aggregate-put-bytes : tie.Need-slice-aggregate-put-bytes

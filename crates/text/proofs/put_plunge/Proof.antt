@@ -6,7 +6,7 @@ use Rattle.text.proofs.put_plunge.Reads as reads
 use Rattle.text.proofs.put_plunge.Lts as lts
 use mathlib.Core.List.{_++_}
 use Rattle.text.specs.Text.{word}
-use Rattle.text.proofs.Lines.{first-room, next-room, two-texts, room-1, room-2, room-3, three-texts}
+use Rattle.phrases.proofs.Puts.{first-room, next-room, two-texts, room-1, room-2, room-3, three-texts}
 use Rattle.text.proofs.put_word.Reads as put-word-reads
 
 cast-put-word : tie.Need-cast-put-word

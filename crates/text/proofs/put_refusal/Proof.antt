@@ -6,8 +6,9 @@ use Rattle.text.proofs.put_refusal.Reads as reads
 use Rattle.text.proofs.put_refusal.Lts as lts
 use mathlib.Core.List.{_++_}
 use Rattle.text.specs.Text.{word, refusedWord}
-use Rattle.text.proofs.Lines.{room-1, room-2, room-3, three-texts, refusal-room, puts-counts}
-use Rattle.text.proofs.put_bytes.Reads as put-bytes-reads
+use Rattle.phrases.proofs.Puts.{room-1, room-2, room-3, three-texts, puts-counts}
+use Rattle.text.proofs.Lines.{refusal-room}
+use Rattle.phrases.proofs.put_bytes.Reads as put-bytes-reads
 use Rattle.text.proofs.put_word.Reads as put-word-reads
 
 slice-aggregate-put-bytes : tie.Need-slice-aggregate-put-bytes

@@ -4,7 +4,7 @@ use Rattle.text.proofs.put_tidy.Statement.{statement}
 use Rattle.text.proofs.put_tidy.Tie as tie
 use native.Mathlib.Omega.{arith}
 use Rattle.text.specs.Text.{tidyLine}
-use Rattle.text.proofs.Lines.{puts-counts}
+use Rattle.phrases.proofs.Puts.{puts-counts}
 
 slice-aggregate-put-bytes : tie.Need-slice-aggregate-put-bytes
 slice-aggregate-put-bytes c = search needs

@@ -5,8 +5,8 @@ use Rattle.text.proofs.put_total.Tie as tie
 use Rattle.text.proofs.put_total.Reads as reads
 use Rattle.text.proofs.put_total.Lts as lts
 use Rattle.text.specs.Text.{word, totalWord}
-use Rattle.text.proofs.Lines.{first-room, next-room, two-texts}
-use Rattle.text.proofs.put_bytes.Reads as put-bytes-reads
+use Rattle.phrases.proofs.Puts.{first-room, next-room, two-texts}
+use Rattle.phrases.proofs.put_bytes.Reads as put-bytes-reads
 use Rattle.text.proofs.put_word.Reads as put-word-reads
 
 slice-aggregate-put-bytes : tie.Need-slice-aggregate-put-bytes

@@ -8,7 +8,7 @@ use mathlib.Core.List.{[], _∷_}
 use native.Mathlib.Omega.{arith}
 use lib.ListN.{length-append}
 use Rattle.numerals.specs.Numerals.{numeral}
-use Rattle.text.proofs.Lines.{puts-length, puts-byte}
+use Rattle.phrases.proofs.Puts.{puts-length, puts-byte}
 use Rattle.numerals.proofs.put_numeral.Reads as put-numeral-reads
 
 -- src/lib.rt:43:9
