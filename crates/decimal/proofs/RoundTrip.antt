@@ -31,21 +31,21 @@ byte-is d h = rw (lt-ltb d 10 h)
 byte-digit : (d : ℕ) → d < 10 → isDigit (digitByte d) ≡ true
 byte-digit d h = ap isDigit (byte-is d h) ∙ rw (le-leb 48 (48 + d) (omega arith), le-leb (48 + d) 57 (omega arith))
 
-digit-first : (b : ℕ) (bs : List ℕ) → areDigits (b ∷ bs) ≡ true → isDigit b ≡ true
+pub digit-first : (b : ℕ) (bs : List ℕ) → areDigits (b ∷ bs) ≡ true → isDigit b ≡ true
 digit-first b bs e = go (isDigit b) e
   where
     go : (t : Bool) → cond t (areDigits bs) false ≡ true → t ≡ true
     go true e = refl
     go false e = e
 
-digit-rest : (b : ℕ) (bs : List ℕ) → areDigits (b ∷ bs) ≡ true → areDigits bs ≡ true
+pub digit-rest : (b : ℕ) (bs : List ℕ) → areDigits (b ∷ bs) ≡ true → areDigits bs ≡ true
 digit-rest b bs e = rw (digit-first b bs e) at e
 
 digits-join : (xs ys : List ℕ) → areDigits xs ≡ true → areDigits ys ≡ true → areDigits (xs ++ ys) ≡ true
 digits-join [] ys e f = f
 digits-join (b ∷ xs) ys e f = rw (digit-first b xs e) (digits-join xs ys (digit-rest b xs e) f)
 
-text-digits : (k n : ℕ) → areDigits (digitText 10 k n) ≡ true
+pub text-digits : (k n : ℕ) → areDigits (digitText 10 k n) ≡ true
 text-digits zero n = refl
 text-digits (suc k) n = digits-join (digitText 10 k (n / 10)) (digitByte (n % 10) ∷ []) (text-digits k (n / 10)) (rw (byte-digit (n % 10) (mod-lt n (lit< tt))))
 
@@ -55,7 +55,7 @@ value-join : (v : ℕ) (xs ys : List ℕ) → valueAfter v (xs ++ ys) ≡ valueA
 value-join v [] ys = refl
 value-join v (b ∷ xs) ys = value-join (10 * v + (b - 48)) xs ys
 
-text-value : (v k n : ℕ) → n < 10 ^ k → valueAfter v (digitText 10 k n) ≡ v * 10 ^ k + n
+pub text-value : (v k n : ℕ) → n < 10 ^ k → valueAfter v (digitText 10 k n) ≡ v * 10 ^ k + n
 text-value v zero n h = omega (arith, mul-one v)
 text-value v (suc k) n h =
     let p : n < 10 ^ k * 10 = rw (pow-suc 10 k) at h in

@@ -1,0 +1,4 @@
+pub mod Pgm
+pub mod Copies
+pub mod Steps
+pub mod Texts
