@@ -40,7 +40,8 @@ pub enum MotionAnswer {
 
 // ---- the scale
 
-fn is_within(low: f64, high: f64, x: f64) -> bool
+// Whether a number lies between two, ends included; what is not a number does not.
+pub fn is_within(low: f64, high: f64, x: f64) -> bool
     ensures { λ r. ⌜ r ≡ within low high x ⌝ }
 {
     if low <= x { x <= high } else { false }

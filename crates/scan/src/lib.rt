@@ -12,7 +12,7 @@ pub fn byte_in(scan: &[u8], i: usize) -> u8
 }
 
 // What follows kind, width and height.
-fn depths(scan: &[u8]) -> &[u8]
+pub fn depths(scan: &[u8]) -> &[u8]
     ensures { λ r. ⌜ now r ≡ depths (now (scan .entry)) ⌝ }
 {
     if scan.len() < 3 {
