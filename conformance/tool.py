@@ -1,148 +1,46 @@
-"""Runs the program jobtool and compares all that it writes with the peers: answers, refusals, words, files. Started by conformance/run.
+"""Runs the program jobtool and compares all that it writes, and its status, with what told.py says. Started by conformance/run.
 
     /usr/bin/python3 conformance/tool.py             the run; 300 scans unless --scans N
-    /usr/bin/python3 conformance/tool.py --store     writes the program's stored run, crates/jobtool/{args,stdout,data/coin.job}
+    /usr/bin/python3 conformance/tool.py --rows      only the rows: one function for each promise about outputs, statuses, words and names
+    /usr/bin/python3 conformance/tool.py --store     writes the gate's stored run, crates/run_jobtool/{args,stdout,data/coin.job}
     /usr/bin/python3 conformance/tool.py --check     only compares that stored run, and runs no program: ends with 1 if it differs
 
-Lists and drawings are SciPy's, the reader is files.py, motions are exact fractions, numbers as text are Python's own.
+The program is target/programs/jobtool, or what JOBTOOL names. What needs root or a mount is left out without them, and that is said.
 """
 import argparse
 import os
-import re
+import pty
+import resource
+import shutil
+import signal
+import stat
 import subprocess
 import sys
 import tempfile
+import time
 
+import cv2
 import numpy as np
 
 import files
-import motions
-import peers
 import scans
+import told
+from told import DONE, LIMIT, REFUSED, TROUBLE, Told, trouble, wanted, wrong_use
 
-TOP = os.path.join(os.path.dirname(os.path.abspath(__file__)), "..")
-TOOL = os.path.join(TOP, "target", "bin", "jobtool")
-CRATE = os.path.join(TOP, "crates", "jobtool")
-LIMIT = 1048576
-DECIMAL = re.compile(r"-?(?=\.?[0-9])[0-9]*\.?[0-9]*\Z", re.ASCII)
+TOOL = os.path.abspath(os.environ.get("JOBTOOL") or os.path.join(told.TOP, "target", "programs", "jobtool"))
+CRATE = os.path.join(told.TOP, "crates", "run_jobtool")
+SCALE = ["0.125", "12.5", "7.3"]
+COMMANDS = [["list"], ["draw"], ["tidy"], ["check"], ["show"], ["info"], ["motions", *SCALE], ["scan"], ["picture"]]
 WORDS = ["0.0625", "4", "0.5", ".5", "5.", "-0", "-0.0", "0", "1000", "1000.0", "1000.00000000001", "4.0000000000001", "0.06249999999999", "-1", "nan",
-         "inf", "abc", "", ".", "-", "-.", "1e1", "+1", " 1", "1 ", "0x1", "1.2.3", "--1", "1,5", "00000000000001.5", "0.00000000000001", "999.99999999999"]
-
-
-# ---- what is wanted
-
-def listed(kind, relief):
-    climb = peers.rungs(relief, kind, by_balls=False)
-    return [tuple(int(n) for n in p) for p in peers.listing(climb, peers.residues(climb, kind))]
-
-
-def drawn(job):
-    return peers.drawn(job.kind, job.width, job.height, job.plunges, by_balls=False)
-
-
-def tidied(job):
-    return files.encode(job.kind, job.width, job.height, listed(job.kind, drawn(job)))
-
-
-def shown(job):
-    lines = [f"plate {job.kind} {job.width} {job.height}"]
-    lines += [f"{reach} {row} {column} {depth}" for column, row, reach, depth in job.plunges] + [f"total {len(job.plunges)}"]
-    return "".join(line + "\n" for line in lines).encode()
-
-
-def text_of(number):
-    return repr(number).removesuffix(".0")
-
-
-def number_of(text):
-    """None where the text has too many digits."""
-    if not DECIMAL.match(text):
-        return float("nan")
-    return float(text) if sum(c.isdigit() for c in text) <= 15 else None
-
-
-def moved(plunges, pitch, x, y):
-    lines, before = [], None
-    for column, row, reach, depth in plunges:
-        lines.append("stay" if reach == before else "change " + text_of(motions.rounded(2 * (2 * reach + 1) * motions.Fraction(pitch))))
-        lines.append(f"travel {text_of(motions.travel(x, column, pitch))} {text_of(motions.travel(y, row, pitch))}")
-        lines.append("sink " + text_of(motions.sink(depth)))
-        before = reach
-    return "".join(line + "\n" for line in lines).encode()
-
-
-def refused(number, place):
-    return b"", f"refused {number} {place}\n".encode()
-
-
-def wanted(words, data):
-    """Standard output and standard error of a command on an input."""
-    if words[0] == "list":
-        kind, width, height = (list(data[:3]) + [0, 0, 0])[:3]
-        cells = width * height
-        if kind not in (4, 8):
-            return refused(1, 0)
-        if not (1 <= width <= 240 and 1 <= height <= 240):
-            return refused(2, 0)
-        if len(data) - 3 < cells:
-            return refused(4, 0)
-        relief = np.frombuffer(data[3:3 + cells], np.uint8).reshape(height, width)
-        return files.encode(kind, width, height, listed(kind, relief)), b""
-    job = files.read(data)
-    if job.number:
-        return refused(job.number, job.place)
-    if words[0] == "draw":
-        return bytes([job.kind, job.width, job.height]) + drawn(job).tobytes(), b""
-    if words[0] == "tidy":
-        return tidied(job), b""
-    if words[0] == "check":
-        tidy = tidied(job)
-        if tidy == data:
-            return b"tidy\n", b""
-        return refused(12, next(i for i, (a, b) in enumerate(zip(data, tidy)) if a != b))
-    if words[0] == "show":
-        return shown(job), b""
-    scale = [number_of(text) for text in words[1:]]
-    assert None not in scale
-    return (moved(job.plunges, *scale), b"") if motions.scale_is_good(*scale) else refused(13, 0)
+         "inf", "abc", "", ".", "-.", "1e1", "+1", " 1", "1 ", "0x1", "1.2.3", "--1", "1,5", "00000000000001.5", "0.00000000000001", "999.99999999999"]
+TIDY = files.encode(8, 3, 3, [(1, 1, 0, 9), (1, 1, 1, 4)])
+UNTIDY = files.encode(8, 3, 3, [(1, 1, 1, 4), (1, 1, 0, 9)])
+SCAN = bytes([8, 3, 3, 4, 4, 4, 4, 9, 4, 4, 4, 4])
+PICTURE = told.picture_of(3, 3, SCAN[3:])
+OLD = b"as it was"
 
 
 # ---- running
-
-class Run:
-    def __init__(self, folder):
-        self.folder, self.compared, self.differences = folder, 0, 0
-
-    def start(self, words, data=b""):
-        done = subprocess.run([TOOL, *words], input=data, capture_output=True, cwd=self.folder)
-        return done.stdout, done.stderr
-
-    def hold(self, what, got, want):
-        self.compared += 1
-        if got != want:
-            self.differences += 1
-            if self.differences == 1:
-                print(f"first difference: {what}\n  got    {got!r:.600}\n  wanted {want!r:.600}")
-
-    def pipe(self, words, data):
-        """From standard input to standard output; gives what is wanted there."""
-        want = wanted(words, data)
-        self.hold((words, data[:99]), self.start(words, data), want)
-        return want[0]
-
-    def name(self, words, data):
-        """From a file to a file. A refusal leaves the file of the answer as it was."""
-        answer, said = wanted(words, data)
-        put(self.folder, "in", data)
-        put(self.folder, "out", b"as it was")
-        self.hold((words, "IN OUT", data[:99]), self.start([*words, "in", "out"]), (b"", said))
-        self.hold((words, "OUT"), (get(self.folder, "out"), sorted(os.listdir(self.folder))), (b"as it was" if said else answer, ["in", "out"]))
-        if not said:
-            self.hold((words, "in place"), self.start([*words, "in", "in"]), (b"", b""))
-            self.hold((words, "in place"), get(self.folder, "in"), answer)
-        for name in ("in", "out"):
-            os.remove(os.path.join(self.folder, name))
-
 
 def put(folder, name, data):
     with open(os.path.join(folder, name), "wb") as out:
@@ -154,11 +52,110 @@ def get(folder, name):
         return read.read()
 
 
-# ---- cases
+def told_of(done):
+    return Told(done.stdout or b"", done.stderr or b"", done.returncode)
+
+
+class Run:
+    def __init__(self, folder, most_told):
+        self.folder, self.most_told, self.compared, self.differences = folder, most_told, 0, 0
+
+    def path(self, name):
+        return os.path.join(self.folder, name)
+
+    def start(self, words, data=b"", **how):
+        """Runs the program in the folder; standard input is the data, or what `stdin` says."""
+        how = {"stdout": subprocess.PIPE, "stderr": subprocess.PIPE, "cwd": self.folder, "timeout": 20, "executable": TOOL, **how}
+        how.update({} if "stdin" in how else {"input": data})
+        try:
+            return told_of(subprocess.run(["jobtool", *words], check=False, **how))
+        except subprocess.TimeoutExpired:
+            return Told(b"", b"it waits", -1)
+
+    def hold(self, what, got, want):
+        self.compared += 1
+        if got != want:
+            self.differences += 1
+            if self.differences <= self.most_told:
+                print(f"difference: {what!r:.300}\n  got    {got!r:.600}\n  wanted {want!r:.600}")
+
+    def pipe(self, words, data):
+        """From standard input to standard output; gives what is wanted there."""
+        want = wanted(words, data)
+        self.hold((words, data[:99]), self.start(words, data), want)
+        return want.out
+
+    def clean(self):
+        for name in os.listdir(self.folder):
+            path = self.path(name)
+            (shutil.rmtree if os.path.isdir(path) and not os.path.islink(path) else os.remove)(path)
+
+    def name(self, words, data):
+        """From a file to a file, the option before and after the words. A refusal leaves the file of the answer as it was."""
+        want = wanted(words, data, b"in")
+        for order in ([*words, "in", "-o", "out"], [words[0], "-o", "out", *words[1:], "in"]):
+            put(self.folder, "in", data)
+            put(self.folder, "out", OLD)
+            self.hold((order, data[:99]), self.start(order), want._replace(out=b""))
+            self.hold((order, "files"), self.files(), {"in": data, "out": OLD if want.status else want.out})
+        self.hold((words, "in place"), self.start([*words, "in", "-o", "in"]), want._replace(out=b""))
+        self.hold((words, "in place"), get(self.folder, "in"), data if want.status else want.out)
+        self.clean()
+
+    def files(self):
+        """Every file of the folder with its bytes."""
+        return {name: get(self.folder, name) for name in os.listdir(self.folder)}
+
+
+# ---- scans and what is made of them
 
 def some_number(rng, most):
     text = f"{rng.uniform(0, most):.{rng.integers(0, 12)}f}"
     return WORDS[rng.integers(len(WORDS))] if rng.random() < 0.15 else text
+
+
+def some_scale(rng):
+    """The last word is a number: one that is none is taken for a name."""
+    scale = [some_number(rng, 4.5), some_number(rng, 1100), some_number(rng, 1100)]
+    return scale if told.DECIMAL.match(scale[2]) else [*scale[:2], "5"]
+
+
+def damaged(rng, data):
+    bad = bytearray(data)
+    bad[int(rng.integers(len(bad)))] = int(rng.integers(256))
+    return bytes(bad[:int(rng.integers(len(bad) + 1))] if rng.random() < 0.5 else bad)
+
+
+def pictures(run, rng, kind, relief):
+    """A scan becomes a picture that OpenCV reads, and the picture of OpenCV the scan again."""
+    height, width = relief.shape
+    scan = bytes([kind, width, height]) + relief.tobytes()
+    made = run.pipe(["picture"], scan)
+    run.hold("a picture by OpenCV", cv2.imdecode(np.frombuffer(made, np.uint8), cv2.IMREAD_UNCHANGED).tobytes(), relief.tobytes())
+    written = cv2.imencode(".pgm", relief)[1].tobytes()
+    for picture in (made, written):
+        run.hold("a scan of a picture", run.start(["scan", "--kind", str(kind)], picture), Told(scan, b"", DONE))
+    for words in (["scan"], ["scan", "--kind", "4"]):
+        run.pipe(words, damaged(rng, made))
+    run.pipe(["picture"], damaged(rng, scan))
+
+
+def comparisons(run, rng, file, mixed):
+    """A file with its own list in any order, with another depth at one plunge, with another kind or size; both ways round."""
+    job = files.read(file)
+    altered = list(job.plunges)
+    if altered:
+        at = int(rng.integers(len(altered)))
+        altered[at] = (*altered[at][:3], int(rng.integers(1, 256)))
+    others = [mixed, files.encode(job.kind, job.width, job.height, altered), files.encode(12 - job.kind, job.width, job.height, job.plunges),
+              files.encode(job.kind, min(240, job.width + 1), job.height, job.plunges), damaged(rng, mixed)]
+    for other in others:
+        for first, second in ((file, other), (other, file)):
+            put(run.folder, "a", first)
+            put(run.folder, "b", second)
+            run.hold(("same", first[:99], second[:99]), run.start(["same", "a", "b"]), told.same((b"a", first), (b"b", second)))
+            run.hold(("same", "-"), run.start(["same", "a", "-"], second), told.same((b"a", first), (None, second)))
+    run.clean()
 
 
 def one_scan(run, rng, index):
@@ -171,110 +168,617 @@ def one_scan(run, rng, index):
     job = files.read(file)
     mixed = [job.plunges[i] for i in rng.integers(0, max(1, len(job.plunges)), 2 * len(job.plunges))]
     mixed = files.encode(kind, width, height, mixed)
-    scale = [some_number(rng, 4.5), some_number(rng, 1100), some_number(rng, 1100)]
+    of_job = [["draw"], ["tidy"], ["check"], ["show"], ["info"], ["picture"], ["motions", *some_scale(rng)]]
     for data in (file, mixed):
-        for words in (["draw"], ["tidy"], ["check"], ["show"], ["motions", *scale]):
+        for words in of_job:
             run.pipe(words, data)
-    damaged = bytearray(mixed)
-    damaged[int(rng.integers(len(damaged)))] = int(rng.integers(256))
-    damaged = bytes(damaged[:int(rng.integers(len(damaged) + 1))] if rng.random() < 0.5 else damaged)
-    for words in (["list"], ["draw"], ["tidy"], ["check"], ["show"], ["motions", *scale]):
-        (run.pipe if index % 10 else run.name)(words, damaged)
+    bad = damaged(rng, mixed)
+    for words in [["list"], ["scan"], *of_job]:
+        (run.pipe if index % 10 else run.name)(words, bad)
+    pictures(run, rng, kind, relief)
     if index % 10 == 0:
-        for words in (["draw"], ["tidy"], ["check"], ["show"], ["motions", *scale]):
+        for words in of_job:
             run.name(words, mixed)
-        run.name(["list"], scan)
+        for words in (["list"], ["picture"]):
+            run.name(words, scan)
+        run.name(["scan"], told.picture_of(width, height, relief.tobytes()))
+    if index % 5 == 0:
+        comparisons(run, rng, file, mixed)
+        several_inputs(run, {b"file": file, b"mixed": mixed, b"bad": bad})
 
+
+def several_inputs(run, named):
+    """check, show and info of all of them and of each twice, one by standard input; the output is replaced only if all are accepted."""
+    for name, data in named.items():
+        put(run.folder, name.decode(), data)
+    names = list(named)
+    for command in ("check", "show", "info"):
+        for order in (names, names[::-1], names[:1] * 2, names[1:2] * 3):
+            want = told.several(command, [(name, named[name]) for name in order])
+            run.hold((command, order), run.start([command, *order]), want)
+            put(run.folder, "out", OLD)
+            run.hold((command, order, "-o"), run.start([command, *order, "-o", "out"]), want._replace(out=b""))
+            run.hold((command, order, "out"), get(run.folder, "out"), OLD if want.status else want.out)
+        want = told.several(command, [(names[0], named[names[0]]), (None, named[names[1]]), (names[2], named[names[2]])])
+        run.hold((command, "-"), run.start([command, names[0], "-", names[2]], named[names[1]]), want)
+    run.clean()
+
+
+# ---- by hand
 
 def by_hand(run):
-    usage = run.start([])[1]
-    run.hold("usage", (usage.startswith(b"usage: jobtool "), usage.count(b"\n"), str(LIMIT).encode() in usage), (True, 1, True))
-    for words in (["paint"], [""], ["list", "a", "b", "c"], ["motions"], ["motions", "1", "2"], ["motions", "1", "2", "3", "a", "b", "c"],
-                  ["listlistlistlistlistlist"], ["lis"], ["-h"], ["--help"]):
-        run.hold(words, run.start(words), (b"", usage))
-    worked = bytes.fromhex("08 03 03 04 04 04 04 09 04 04 04 04")
-    run.hold("worked example", run.start(["show"], run.start(["list"], worked)[0])[0], b"plate 8 3 3\n0 1 1 9\n1 1 1 4\ntotal 2\n")
-    run.hold("empty scan", run.start(["list"]), (b"", b"refused 1 0\n"))
+    run.hold("worked example", run.start(["show"], run.start(["list"], SCAN).out), Told(b"plate 8 3 3\n0 1 1 9\n1 1 1 4\ntotal 2\n", b"", DONE))
+    run.hold("a picture", run.start(["picture"], SCAN).out, b"P5\n3 3\n255\n\4\4\4\4\x09\4\4\4\4")
+    run.hold("info", run.start(["info"], TIDY).out,
+             b"plate 3 by 3, kind 8\nplunges 2\nreach 0: plunges 1, depths 9 to 9\nreach 1: plunges 1, depths 4 to 4\n"
+             b"changes 2\ntravel 0 cells\nvolume 41\ntidy yes\n")
     none = files.encode(8, 3, 3, [])
-    for words in WORDS:
+    for word in WORDS:
         for place in range(3):
             scale = ["0.5", "10", "20"]
-            scale[place] = words
-            run.pipe(["motions", *scale], none)
-            run.pipe(["motions", *scale], files.encode(8, 3, 3, [(1, 1, 1, 4)]))
+            scale[place] = word
+            for data in (none, files.encode(8, 3, 3, [(1, 1, 1, 4)])):
+                put(run.folder, "in", data)
+                run.hold(("scale", scale), run.start(["motions", *scale, "in"]), wanted(["motions", *scale], data, b"in"))
     for text in ("0.5000000000000000", "0000000000000000", "1" * 5000):
-        out, said = run.start(["motions", "0.5", text, "1"], none)
-        run.hold(("digits", text[:20]), (out, b"15 digits" in said, said.count(b"\n")), (b"", True, 1))
+        for place in range(3):
+            scale = ["0.5", "10", "20"]
+            scale[place] = text
+            run.hold(("digits", place, text[:20]), run.start(["motions", *scale, "in"]), Told(b"", told.DIGITS, TROUBLE))
+    for picture in picture_headers():
+        run.pipe(["scan"], picture)
+    run.clean()
+
+
+def picture_headers():
+    """The pictures of tests/test_pgm.py."""
+    tests = told.test_pgm
+    for part in (tests.headers, tests.numbers, tests.rasters):
+        part()
+    return [literal + bytes([byte]) * more for call, _, _, _, literal, more, byte in tests.RECORDS if call == 0]
 
 
 def limits(run):
     surplus = bytes([8, 1, 1, 9]) + bytes(LIMIT - 4)
-    run.hold("an input of the limit", run.start(["list"], surplus), (files.encode(8, 1, 1, [(0, 0, 0, 9)]), b""))
-    for words in (["list"], ["draw"], ["tidy"], ["check"], ["show"], ["motions", "1", "1", "1"]):
-        out, said = run.start(words, surplus + b"\0")
-        run.hold((words, "a longer input"), (out, b"longer than" in said, said.count(b"\n")), (b"", True, 1))
+    run.hold("an input of the limit", run.start(["list"], surplus), Told(files.encode(8, 1, 1, [(0, 0, 0, 9)]), b"", DONE))
+    put(run.folder, "in", surplus + b"\0")
+    for words in COMMANDS:
+        run.hold((words, "a longer input"), run.start(words, surplus + b"\0"), trouble(None, f"longer than {LIMIT} bytes"))
+        run.hold((words, "a longer file"), run.start([*words, "in"]), trouble(b"in", f"longer than {LIMIT} bytes"))
     number = (LIMIT - 13) // 7
     long = files.encode(4, 1, 1, [(0, 0, 0, 1 + i % 255) for i in range(number)])
-    run.hold("a long file", run.start(["tidy"], long), (files.encode(4, 1, 1, [(0, 0, 0, 255)]), b""))
-    run.hold("a long file shown", run.start(["show"], long)[0], shown(files.read(long)))
-    run.hold("a long file's motions", run.start(["motions", "0.1", "0.2", "0.3"], long)[0], moved(files.read(long).plunges, 0.1, 0.2, 0.3))
+    run.hold("a long file", run.start(["tidy"], long), Told(files.encode(4, 1, 1, [(0, 0, 0, 255)]), b"", DONE))
+    for words in (["show"], ["motions", "0.1", "0.2", "0.3"], ["info"], ["check"]):
+        run.pipe(words, long)
+    run.clean()
 
 
-def names(run):
-    put(run.folder, "in", files.encode(8, 1, 1, [(0, 0, 0, 9)]))
-    out, said = run.start(["tidy", "missing", "out"])
-    run.hold("no such input", (out, b"missing: " in said, os.listdir(run.folder)), (b"", True, ["in"]))
-    out, said = run.start(["tidy", "."])
-    run.hold("a folder for input", (out, said != b""), (b"", True))
-    out, said = run.start(["tidy", "in", "missing/out"])
-    run.hold("no such folder", (out, b"missing/out.part: " in said, os.listdir(run.folder)), (b"", True, ["in"]))
-    put(run.folder, "out.part", b"another's")
-    out, said = run.start(["tidy", "in", "out"])
-    run.hold("another's part", (out, b"out.part: " in said, get(run.folder, "out.part"), sorted(os.listdir(run.folder))),
-             (b"", True, b"another's", ["in", "out.part"]))
-    for length in (4095, 4096, 9000):
-        out, said = run.start(["tidy", "in", "a" * length])
-        run.hold(("a long name", length), (out, said != b"", sorted(os.listdir(run.folder))), (b"", True, ["in", "out.part"]))
-    for name in ("in", "out.part"):
-        os.remove(os.path.join(run.folder, name))
+def largest_plate(run):
+    """Noise, and noise on slopes, which has the longest list of all that were tried: nine tenths of the limit."""
+    noise = np.random.default_rng(7).integers(0, 256, (240, 240))
+    side = np.minimum(np.arange(240), np.arange(240)[::-1])
+    for kind, relief in ((4, noise), (8, 255 - 2 * np.minimum(side[:, None], side) - noise // 16)):
+        depths = relief.clip(0, 255).astype(np.uint8).tobytes()
+        file = run.pipe(["list"], bytes([kind, 240, 240]) + depths)
+        for words in (["draw"], ["tidy"], ["check"], ["show"], ["info"], ["picture"], ["motions", *SCALE]):
+            run.pipe(words, file)
+        run.pipe(["picture"], bytes([kind, 240, 240]) + depths)
+        run.pipe(["scan"], told.picture_of(240, 240, depths))
+
+
+# ---- rows: one function for each promise about outputs, statuses, words and names
+
+def ready(run):
+    """One input of each sort, and a file that is to be replaced."""
+    run.clean()
+    for name, data in (("in", TIDY), ("untidy", UNTIDY), ("scan", SCAN), ("picture", PICTURE), ("out", OLD)):
+        put(run.folder, name, data)
+
+
+def input_of(words):
+    return {"list": "scan", "scan": "picture"}.get(words[0], "in")
+
+
+def skipped(row, why):
+    print(f"jobtool: not tried: {row}: {why}")
+
+
+def row_output_only_behind_o(run):
+    put(run.folder, "b", UNTIDY)
+    run.hold("check a b", run.start(["check", "in", "b"]), told.several("check", [(b"in", TIDY), (b"b", UNTIDY)]))
+    for words in COMMANDS:
+        got = run.start([*words, input_of(words), "out"])
+        if words[0] in ("check", "show", "info"):
+            run.hold((words, "two inputs"), got.status, REFUSED)
+        else:
+            run.hold((words, "two names"), got, wrong_use())
+        run.hold((words, "files"), (get(run.folder, "out"), get(run.folder, "b")), (OLD, UNTIDY))
+    for order in (["tidy", "-o", "out", "untidy"], ["tidy", "untidy", "-o", "out"]):
+        put(run.folder, "out", OLD)
+        run.hold(order, (run.start(order), get(run.folder, "out")), (Told(b"", b"", DONE), TIDY))
+    run.hold("a new file", (run.start(["tidy", "untidy", "-o", "new"]), get(run.folder, "new")), (Told(b"", b"", DONE), TIDY))
+    run.hold("in place", (run.start(["tidy", "untidy", "-o", "untidy"]), get(run.folder, "untidy")), (Told(b"", b"", DONE), TIDY))
+    run.hold("same", (run.start(["same", "in", "b", "-o", "out"]), get(run.folder, "out")), (Told(b"", b"", DONE), b"same\n"))
+
+
+def device(run, name, minor):
+    """A device of our own where one can be made, so that no fault of the program can harm the system's."""
+    if os.getuid() == 0:
+        try:
+            os.mknod(run.path(name), 0o666 | stat.S_IFCHR, os.makedev(1, minor))
+            with open(run.path(name), "rb"):
+                return name
+        except OSError:
+            skipped("devices", "none can be made here")
+            return None
+    return f"/dev/{name}"
+
+
+def row_devices(run):
+    null, full = device(run, "null", 3), device(run, "full", 7)
+    for words in COMMANDS if null and full else []:
+        run.hold((words, "null"), run.start([*words, input_of(words), "-o", null]), Told(b"", b"", DONE))
+        run.hold((words, "full"), run.start([*words, input_of(words), "-o", full]), trouble(full.encode(), "No space left on device"))
+        run.hold((words, "devices"), [stat.S_ISCHR(os.stat(run.path(name)).st_mode) for name in (null, full)], [True, True])
+    os.symlink("/dev/full", run.path("link"))
+    run.hold("a link to a device", run.start(["tidy", "in", "-o", "link"]), trouble(b"link", "No space left on device"))
+    run.hold("a link to a device", os.readlink(run.path("link")), "/dev/full")
+    for words in COMMANDS:
+        with open("/dev/full", "wb") as out:
+            run.hold((words, "standard output"), run.start([*words, input_of(words)], stdout=out), trouble(b"standard output", "No space left on device"))
+
+
+def row_pipes(run):
+    os.mkfifo(run.path("pipe"))
+    with subprocess.Popen(["cat", run.path("pipe")], stdout=subprocess.PIPE) as reader:
+        got = run.start(["tidy", "untidy", "-o", "pipe"])
+        run.hold("a pipe", got, Told(b"", b"", DONE))
+        if got != Told(b"", b"", DONE) or not stat.S_ISFIFO(os.stat(run.path("pipe")).st_mode):
+            reader.kill()
+        run.hold("a pipe's reader", reader.stdout.read(), TIDY)
+    run.hold("a pipe stays one", stat.S_ISFIFO(os.lstat(run.path("pipe")).st_mode), True)
+
+
+def row_pipes_by_number(run):
+    """As a shell names them: their links lead to no name. A link of our own stands for /dev/stdout, which a fault could replace."""
+    os.symlink("/proc/self/fd/1", run.path("stdout"))
+    for name in ("stdout", "/dev/fd/1", "/proc/self/fd/1"):
+        run.hold(("a pipe by its number", name), run.start(["tidy", "untidy", "-o", name]), Told(TIDY, b"", DONE))
+
+
+def row_links(run):
+    os.makedirs(run.path("far/away"))
+    put(run.folder, "far/away/file", OLD)
+    links = {"link": "out", "chain": "far/second", "far/second": "away/third", "far/away/third": "file", "whole": run.path("far/away/file"),
+             "up": "far/../out", "dangling": "far/new", "chain2": "dangling2", "dangling2": os.path.join(run.folder, "far", "new2")}
+    for name, target in links.items():
+        os.symlink(target, run.path(name))
+    led = {"link": "out", "chain": "far/away/file", "whole": "far/away/file", "up": "out", "dangling": "far/new", "chain2": "far/new2"}
+    for name, target in led.items():
+        if os.path.exists(run.path(target)):
+            put(run.folder, target, OLD)
+        run.hold(("link", name), run.start(["tidy", "untidy", "-o", name]), Told(b"", b"", DONE))
+        run.hold(("link", name, "file"), (os.path.exists(run.path(target)) and get(run.folder, target), os.path.islink(run.path(target))), (TIDY, False))
+    run.hold("links stay", {name: os.readlink(run.path(name)) for name in links if os.path.islink(run.path(name))}, links)
+    run.hold("nothing else", sorted(os.listdir(run.path("far")) + os.listdir(run.path("far/away"))), ["away", "file", "new", "new2", "second", "third"])
+    os.symlink("round", run.path("round"))
+    run.hold("a link to itself", run.start(["tidy", "in", "-o", "round"]), trouble(b"round", "Too many levels of symbolic links"))
+    os.symlink("none/file", run.path("lost"))
+    run.hold("a link into no folder", run.start(["tidy", "in", "-o", "lost"]), trouble(b"lost", "No such file or directory"))
+    os.symlink("in", run.path("from"))
+    run.hold("a link for input", run.start(["check", "from"]), Told(b"tidy\n", b"", DONE))
+
+
+def row_modes(run):
+    for mode in (0o600, 0o755, 0o640, 0o666, 0o644):
+        put(run.folder, "out", OLD)
+        os.chmod(run.path("out"), mode)
+        run.hold((oct(mode), "run"), run.start(["tidy", "untidy", "-o", "out"]), Told(b"", b"", DONE))
+        run.hold((oct(mode), "kept"), (oct(stat.S_IMODE(os.stat(run.path("out")).st_mode)), get(run.folder, "out")), (oct(mode), TIDY))
+    for umask in (0o022, 0o077, 0o002, 0):
+        run.start(["tidy", "untidy", "-o", f"new{umask}"], preexec_fn=lambda umask=umask: os.umask(umask))
+        made = run.path(f"new{umask}")
+        run.hold(("umask", oct(umask)), os.path.exists(made) and oct(stat.S_IMODE(os.stat(made).st_mode)), oct(0o666 & ~umask))
+
+
+def row_mode_of_the_part(run):
+    """A file that others may not read is never readable to them on its way."""
+    os.chmod(run.path("out"), 0o600)
+    with waiting(run, ["tidy", "-", "-o", "out"]) as ran:
+        modes = [oct(stat.S_IMODE(os.stat(run.path(name)).st_mode)) for name in parts(run)]
+        ran.communicate(UNTIDY)
+    run.hold("the part of a 0600 file", (modes, get(run.folder, "out")), (["0o600"], TIDY))
+
+
+def as_nobody():
+    os.setgroups([])
+    os.setgid(65534)
+    os.setuid(65534)
+
+
+def row_write_protected(run):
+    """As a user who may not write the file, but may write the folder."""
+    tool, how = TOOL, {}
+    if os.getuid() == 0:
+        os.chmod(run.folder, 0o777)
+        tool = shutil.copy(TOOL, run.path("tool"))
+        os.chmod(tool, 0o755)
+        how = {"preexec_fn": as_nobody, "executable": tool}
+    try:
+        seen = run.start(["--version"], **how).status
+    except (OSError, subprocess.SubprocessError):
+        seen = -1
+    if seen != DONE:
+        run.hold("another user", seen in (DONE, -1), True)
+        return skipped("write protection", "the program cannot be run as another user")
+    for mode in (0o444, 0o400, 0o555):
+        os.chmod(run.path("out"), mode)
+        run.hold((oct(mode), "protected"), run.start(["tidy", "in", "-o", "out"], **how), trouble(b"out", "Permission denied"))
+        run.hold((oct(mode), "whole"), (get(run.folder, "out"), stat.S_IMODE(os.stat(run.path("out")).st_mode), parts(run)), (OLD, mode, []))
+    os.mkdir(run.path("shut"), 0o755)
+    put(run.folder, "shut/out", OLD)
+    os.chmod(run.path("shut/out"), 0o666)
+    os.chmod(run.path("shut"), 0o555)
+    run.hold("a protected folder", run.start(["tidy", "in", "-o", "shut/new"], **how), trouble(b"shut/new", "Permission denied"))
+    run.hold("its files", (os.listdir(run.path("shut")), get(run.folder, "shut/out")), (["out"], OLD))
+    os.chmod(run.path("shut"), 0)
+    run.hold("a shut folder", run.start(["tidy", "in", "-o", "shut/out"], **how), trouble(b"shut/out", "Permission denied"))
+    os.chmod(run.path("shut"), 0o755)
+    os.chmod(run.path("untidy"), 0)
+    run.hold("an input that may not be read", run.start(["tidy", "untidy"], **how), trouble(b"untidy", "Permission denied"))
+
+
+def row_owner(run):
+    if os.getuid() != 0:
+        return skipped("owners", "only root may give files away")
+    for owner, group, mode in ((1234, 5678, 0o640), (65534, 0, 0o600), (0, 77, 0o755)):
+        put(run.folder, "out", OLD)
+        os.chown(run.path("out"), owner, group)
+        os.chmod(run.path("out"), mode)
+        run.hold(("owner", owner), run.start(["tidy", "untidy", "-o", "out"]), Told(b"", b"", DONE))
+        status = os.stat(run.path("out"))
+        run.hold(("owner", owner, "kept"), (status.st_uid, status.st_gid, stat.S_IMODE(status.st_mode), get(run.folder, "out")), (owner, group, mode, TIDY))
+
+
+def row_full_disk(run):
+    disk = run.path("disk")
+    os.mkdir(disk)
+    if os.getuid() != 0 or subprocess.run(["mount", "-t", "tmpfs", "-o", "size=64k", "none", disk], stderr=subprocess.DEVNULL, check=False).returncode:
+        return skipped("a full disk", "none can be mounted; a limit of a file's size is tried in its place")
+    try:
+        put(disk, "out", OLD)
+        put(run.folder, "large", bytes([8, 240, 240]) + bytes(57600))
+        for filled in (20000, 61440):
+            put(disk, "filling", bytes(filled))
+            run.hold(("a full disk", filled), run.start(["picture", "large", "-o", "disk/out"]), trouble(b"disk/out", "No space left on device"))
+            run.hold(("old file", filled), (get(disk, "out"), sorted(os.listdir(disk))), (OLD, ["filling", "out"]))
+        run.hold("a new file", run.start(["picture", "large", "-o", "disk/new"]), trouble(b"disk/new", "No space left on device"))
+        os.remove(os.path.join(disk, "filling"))
+        run.hold("room again", (run.start(["tidy", "untidy", "-o", "disk/out"]), get(disk, "out"), os.listdir(disk)), (Told(b"", b"", DONE), TIDY, ["out"]))
+    finally:
+        subprocess.run(["umount", disk], check=True)
+
+
+def row_limit_of_a_file(run):
+    def limited():
+        signal.signal(signal.SIGXFSZ, signal.SIG_IGN)
+        resource.setrlimit(resource.RLIMIT_FSIZE, (1000, 1000))
+    put(run.folder, "large", bytes([8, 40, 40]) + bytes(range(1, 251)) * 7)
+    for words in (["list", "large"], ["picture", "large"]):
+        run.hold((words, "a limit"), run.start([*words, "-o", "out"], preexec_fn=limited), trouble(b"out", "File too large"))
+        run.hold((words, "new"), run.start([*words, "-o", "new"], preexec_fn=limited), trouble(b"new", "File too large"))
+        run.hold((words, "left"), (get(run.folder, "out"), parts(run), os.path.exists(run.path("new"))), (OLD, [], False))
+    run.hold("within the limit", (run.start(["tidy", "untidy", "-o", "out"], preexec_fn=limited), get(run.folder, "out")), (Told(b"", b"", DONE), TIDY))
+
+
+def parts(run):
+    return [name for name in os.listdir(run.folder) if name.endswith(".part")]
+
+
+def row_leftover_part(run):
+    left = {name: b"left over" for name in ("out.part", "jobtool-1.part", "jobtool-4294967295.part", ".part", "jobtool.part")}
+    for name, data in left.items():
+        put(run.folder, name, data)
+    for _ in range(3):
+        run.hold("beside a part", (run.start(["tidy", "untidy", "-o", "out"]), get(run.folder, "out")), (Told(b"", b"", DONE), TIDY))
+    run.hold("the parts", {name: get(run.folder, name) for name in parts(run)}, left)
+
+
+class waiting:
+    """The program, waiting for its standard input with its output begun."""
+
+    def __init__(self, run, words):
+        self.run, self.words = run, words
+
+    def __enter__(self):
+        self.ran = subprocess.Popen(["jobtool", *self.words], executable=TOOL, cwd=self.run.folder, stdin=subprocess.PIPE, stdout=subprocess.PIPE,
+                                    stderr=subprocess.PIPE)
+        until = time.monotonic() + 2
+        while not parts(self.run) and self.ran.poll() is None and time.monotonic() < until:
+            time.sleep(0.01)
+        return self.ran
+
+    def __exit__(self, *_):
+        if self.ran.poll() is None:
+            self.ran.kill()
+        self.ran.communicate()
+
+
+def row_killed(run):
+    """Ended in the middle, by a signal that nothing can be done about: the old file is whole, and the next run is not hindered."""
+    for _ in range(3):
+        with waiting(run, ["tidy", "-", "-o", "out"]) as ran:
+            run.hold("it waits", ran.poll(), None)
+            ran.kill()
+        run.hold("killed", (get(run.folder, "out"), ran.returncode), (OLD, -signal.SIGKILL))
+    run.hold("afterwards", (run.start(["tidy", "untidy", "-o", "out"]), get(run.folder, "out")), (Told(b"", b"", DONE), TIDY))
+
+
+def split(lines):
+    """Command lines behind one another."""
+    return [line.split() for line in lines.split("; ")]
+
+
+WRONG = [[], [""], ["scan", "--kind", "", "picture"]] + split(
+    "paint; lis; listlistlistlistlistlist; -o; --kind; list a b; draw a b; tidy a b; scan a b; picture a b; same; same in; same in in in; motions; motions 1; "
+    "motions 1 2; motions 1 2 3 in in; tidy in -o; tidy -o a -o b in; tidy in -x; tidy --output a in; tidy --kind 4 in; scan --kind; scan --kind 5 picture; "
+    "scan --kind 44 picture; scan --kind 4 --kind 4 picture; list --help; check in --version; list -h; "
+    "check --a-long-word-that-looks-like-an-option-and-is-none in")
+
+
+def row_statuses(run):
+    put(run.folder, "bad", TIDY[:-1])
+    put(run.folder, "other", files.encode(8, 3, 3, [(1, 1, 0, 9)]))
+    cases = {DONE: [[*words, input_of(words)] for words in COMMANDS] + split("same in untidy; check in in; --help; -h; help; --version"),
+             REFUSED: [[*words, "bad"] for words in COMMANDS] + split(
+                 "check untidy; check in untidy in; same in other; show bad in; motions 5 1 1 in; motions x 1 1 in; list in; tidy scan; list picture; "
+                 "scan scan"),
+             TROUBLE: [[*words, name] for words in COMMANDS for name in ("none", ".")] + WRONG + split(
+                 "same in bad; same bad in; same in none; same none in; check none in; check untidy none; check none untidy; tidy in -o none/out; "
+                 "tidy in -o .; motions 0.1 1 1234567890123456 in")}
+    for status, some in cases.items():
+        for words in some:
+            got = run.start(words)
+            run.hold(("status", words), got.status, status)
+            run.hold(("standard error is silent", words), not got.said, status == DONE or words[:3] == ["same", "in", "other"])
+
+
+def row_wrong_use(run):
+    for words in WRONG:
+        run.hold(("wrong use", words), run.start(words), wrong_use())
+    run.hold("nothing is written", (get(run.folder, "out"), sorted(os.listdir(run.folder))), (OLD, ["in", "out", "picture", "scan", "untidy"]))
+
+
+def row_help(run):
+    texts = [run.start([word]) for word in ("--help", "-h", "help")]
+    run.hold("help", [(bool(text.out), text.said, text.status) for text in texts], [(True, b"", DONE)] * 3)
+    run.hold("one help", len(set(texts)), 1)
+    for command in ("list", "draw", "tidy", "check", "show", "info", "same", "motions", "scan", "picture"):
+        run.hold(("help", command), f"\n  jobtool {command} ".encode() in texts[0].out, True)
+    for word in (b"-o OUT", b"--kind", b"HALF_PITCH COLUMN_OFFSET ROW_OFFSET", b"standard input", b"0 done", b"1 refused", b"2 trouble"):
+        run.hold(("help", word), word in texts[0].out, True)
+    with open("/dev/full", "wb") as out:
+        run.hold("help that cannot be written", run.start(["--help"], stdout=out), trouble(b"standard output", "No space left on device"))
+
+
+def row_version(run):
+    version = run.start(["--version"])
+    run.hold("version", (version.out.startswith(b"jobtool of Haruseopda "), version.out.count(b"\n"), version.said, version.status), (True, 1, b"", DONE))
+
+
+def row_sentences(run):
+    """Each by hand, as a planner would read it."""
+    head, bad = files.head(8, 3, 3), files.encode(8, 3, 3, [(1, 1, 0, 9), (0, 1, 1, 4)])
+    for words, data, number, place, sentence in (
+            ("list", b"", 1, 0, "it is empty"),
+            ("list", bytes([5, 3, 3]), 1, 0, "kind 5 is not 4 or 8"),
+            ("list", bytes([8, 0, 250]), 2, 0, "width 0 and height 250: sides are 1 to 240"),
+            ("list", bytes([8, 3, 3, 1, 2]), 4, 0, "the scan has 2 depths, 9 are needed"),
+            ("list", b"\4", 2, 0, "width 0 and height 0: sides are 1 to 240"),
+            ("list", TIDY, 1, 0, "this looks like a job file: jobtool draw makes a scan of one"),
+            ("list", PICTURE, 1, 0, "this looks like a picture: jobtool scan makes a scan of one"),
+            ("picture", PICTURE, 1, 0, "this looks like a picture: jobtool scan makes a scan of one"),
+            ("picture", TIDY[:-1], 6, 20, "the file ends inside the field at byte 20"),
+            ("tidy", b"", 6, 0, "it is empty"),
+            ("tidy", SCAN, 7, 0, "this looks like a scan: jobtool list makes a job file of one"),
+            ("tidy", PICTURE, 7, 0, "this looks like a picture: jobtool scan makes a scan of one"),
+            ("show", files.encode(6, 3, 3, []), 1, 0, "kind 6 is not 4 or 8"),
+            ("info", files.encode(4, 241, 3, []), 2, 0, "width 241 and height 3: sides are 1 to 240"),
+            ("draw", head, 6, 6, "the file ends at byte 6 without an end field"),
+            ("draw", TIDY[:-1], 6, 20, "the file ends inside the field at byte 20"),
+            ("check", head + head, 7, 6, "the field at byte 6 has tag 1 and length 3, which is not allowed there"),
+            ("check", b"\1\2\3" + TIDY, 7, 0, "the field at byte 0 has tag 1 and length 515, which is not allowed there"),
+            ("check", bad, 8, 13, "plunge number 1 at byte 13: its ball leaves the plate"),
+            ("info", files.encode(8, 3, 3, [(1, 1, 1, 0)]), 9, 6, "plunge number 0 at byte 6: its depth is 0"),
+            ("show", TIDY[:-1] + b"\3", 10, 20, "the end field at byte 20 says 3 plunges, the file has 2"),
+            ("tidy", TIDY + b"x", 11, 27, "the file goes on behind its end field, from byte 27 on"),
+            ("check", UNTIDY, 12, 11, "not tidy: the tidied file is unlike this one from byte 11 on"),
+            ("motions 5 1 1", TIDY, 13, 0, "the half pitch is not a number from 0.0625 to 4"),
+            ("motions 1 -1 1", TIDY, 13, 0, "the column offset is not a number from 0 to 1000"),
+            ("motions 1 1 1000.5", TIDY, 13, 0, "the row offset is not a number from 0 to 1000")):
+        put(run.folder, "bad", data)
+        want = Told(b"", f"refused {number} {place}\njobtool: bad: {sentence}\n".encode(), REFUSED)
+        run.hold((words, sentence), run.start([*words.split(), "bad"]), want)
+        run.hold((words, sentence, "told"), wanted(words.split(), data, b"bad"), want)
+        run.hold((words, sentence, "standard input"), run.start(words.split(), data), want._replace(said=want.said.replace(b": bad: ", b": standard input: ")))
+    run.hold("no picture", run.start(["scan", "scan"]), Told(b"", b"jobtool: scan: no PGM picture: it does not begin with P5\n", REFUSED))
+    for words, line, status in ((["same", "in", "untidy"], b"same\n", DONE), (["same", "in", "cell"], b"column 1, row 1: depth 9 and 7\n", REFUSED),
+                                (["same", "in", "size"], b"size 3 by 3 and 3 by 4\n", REFUSED), (["same", "in", "kind"], b"kind 8 and 4\n", REFUSED)):
+        put(run.folder, "cell", files.encode(8, 3, 3, [(1, 1, 0, 7), (1, 1, 1, 4)]))
+        put(run.folder, "size", files.encode(8, 3, 4, []))
+        put(run.folder, "kind", files.encode(4, 9, 9, []))
+        run.hold(words, run.start(words), Told(line, b"", status))
+
+
+def hold_at_terminal(run, words, want):
+    """A run with a terminal for standard input, at which nobody types."""
+    try:
+        ours, theirs = pty.openpty()
+    except OSError:
+        return skipped(f"{' '.join(words)} at a terminal", "none can be had here")
+    run.hold((words, "at a terminal"), run.start(words, stdin=theirs, timeout=2), want)
+    os.close(ours)
+    os.close(theirs)
+
+
+def row_forgotten_offset(run):
+    for words in split("motions 0.5 10 in; motions 0.5 10 ./in; motions 0.5 10 none; motions -o out 0.5 10 in"):
+        hold_at_terminal(run, words, wrong_use())
+        run.hold((words, "with nothing to read"), run.start(words, stdin=subprocess.DEVNULL), wrong_use())
+        with waiting(run, words) as ran:
+            try:
+                got = ran.wait(2)
+            except subprocess.TimeoutExpired:
+                got = "it waits"
+        run.hold((words, "at once"), got, TROUBLE)
+    run.hold("out", get(run.folder, "out"), OLD)
+
+
+def row_endless_number(run):
+    """A number is one, however many digits it has: no offset was forgotten."""
+    for digits in (16, 40, 4096, 5000, 100000):
+        run.hold(("digits", digits), run.start(["motions", "0.5", "10", "1" * digits], TIDY), Told(b"", told.DIGITS, TROUBLE))
+
+
+def row_terminal(run):
+    for words in COMMANDS:
+        hold_at_terminal(run, words, wrong_use())
+        hold_at_terminal(run, [*words, "-o", "out"], wrong_use())
+        hold_at_terminal(run, [*words, input_of(words)], wanted(words, get(run.folder, input_of(words))))
+    run.hold("out", get(run.folder, "out"), OLD)
+
+
+def row_dash(run):
+    for words in COMMANDS:
+        data = get(run.folder, input_of(words))
+        want = wanted(words, data)
+        for more in ([], ["-"], ["-", "-o", "-"], ["-o", "-"], ["-o", "-", "-"]):
+            run.hold((words, more), run.start([*words, *more], data), want)
+        run.hold((words, "-o -"), run.start([*words, input_of(words), "-o", "-"]), want)
+        run.hold((words, "- to a file"), (run.start([*words, "-", "-o", "out"], data), get(run.folder, "out")), (Told(b"", b"", DONE), want.out))
+    run.hold("no file -", os.path.exists(run.path("-")), False)
+    run.hold("check a -", run.start(["check", "in", "-", "untidy"], TIDY), told.several("check", [(b"in", TIDY), (None, TIDY), (b"untidy", UNTIDY)]))
+    run.hold("same - a", run.start(["same", "-", "in"], UNTIDY), Told(b"same\n", b"", DONE))
+
+
+STRANGE = [b"a b", b" ", b"a\nb", b"\t", b"\x1b[31mred", b"\x7f", b"back\\slash", b"\\n", "Prägung ×.job".encode(), "模具".encode(), b"\xff\xfe",
+           b"\x01\x1f", b"%s%n", b"'\"$(x)", b"./-x", b"./-", b"./-o", b"--", b"-1", b"...", b"a" * 255, b"\x01" * 120]
+
+
+def row_names_escaped(run):
+    for name in STRANGE:
+        run.hold(("missing", name), run.start(["tidy", name]), trouble(name, "No such file or directory"))
+        run.hold(("no folder", name), run.start(["tidy", "in", "-o", name + b"/out"]), trouble(name + b"/out", "No such file or directory"))
+        file = os.path.join(os.fsencode(run.folder), name)
+        with open(file, "wb") as out:
+            out.write(UNTIDY)
+        run.hold(("refused", name), run.start(["check", name]), wanted(["check"], UNTIDY, name))
+        run.hold(("several", name), run.start(["check", name, "in"]), told.several("check", [(name, UNTIDY), (b"in", TIDY)]))
+        run.hold(("in place", name), run.start(["tidy", name, "-o", name]), Told(b"", b"", DONE))
+        run.hold(("heading", name), run.start(["show", "in", name]), told.several("show", [(b"in", TIDY), (name, TIDY)]))
+        run.hold(("no picture", name), run.start(["scan", name]).said, b"jobtool: " + told.shown_name(name) + b": no PGM picture: it does not begin with P5\n")
+        os.remove(file)
+
+
+def row_long_names(run):
+    deep = b"/".join([b"d" * 200] * 12)
+    for name in (b"a" * 256, b"a" * 4097, b"\n\\" * 3000, b"a" * 100000):
+        run.hold(("input", len(name)), run.start(["tidy", name]), trouble(name, "File name too long"))
+        run.hold(("several", len(name)), run.start(["check", "in", name]), Told(b"in: tidy\n", trouble(name, "File name too long").said, TROUBLE))
+        run.hold(("output", len(name)), run.start(["tidy", "in", "-o", name]), trouble(name, "File name too long"))
+    os.makedirs(os.path.join(os.fsencode(run.folder), deep))
+    run.hold("into a deep folder", run.start(["tidy", "untidy", "-o", deep + b"/out"]), Told(b"", b"", DONE))
+    run.hold("from a deep folder", run.start(["check", deep + b"/out"]), Told(b"tidy\n", b"", DONE))
+    run.hold("nothing is left", sorted(os.listdir(run.folder)), sorted(["in", "out", "picture", "scan", "untidy", "d" * 200]))
+
+
+def row_names_shown_whole(run):
+    """Names that the system takes are not cut in messages, however long their escapes are."""
+    missing = "No such file or directory"
+    for name, reason in ((b"a" * 4095, "File name too long"), (b"/".join([b"d" * 200] * 12), missing), (b"\x01" * 255, missing)):
+        run.hold(("input", name[:9], len(name)), run.start(["tidy", name]), trouble(name, reason))
+        run.hold(("output", name[:9], len(name)), run.start(["tidy", "in", "-o", name + b"/out"]), trouble(name + b"/out", reason))
+
+
+def row_small_stack(run):
+    """512 KiB, on the largest plate."""
+    def small():
+        resource.setrlimit(resource.RLIMIT_STACK, (512 * 1024, 512 * 1024))
+    relief = np.random.default_rng(3).integers(0, 256, (240, 240)).astype(np.uint8)
+    scan = bytes([8, 240, 240]) + relief.tobytes()
+    put(run.folder, "scan", scan)
+    put(run.folder, "in", wanted(["list"], scan).out)
+    put(run.folder, "picture", told.picture_of(240, 240, relief.tobytes()))
+    for words in COMMANDS:
+        data = get(run.folder, input_of(words))
+        run.hold((words, "a small stack"), run.start([*words, input_of(words)], preexec_fn=small), wanted(words, data))
+        run.hold((words, "a small stack, -o"), run.start([*words, input_of(words), "-o", "out"], preexec_fn=small), Told(b"", b"", DONE))
+    run.hold("same", run.start(["same", "in", "in"], preexec_fn=small), Told(b"same\n", b"", DONE))
+    for words in (["--help"], ["--version"], ["check", "in", "in"]):
+        run.hold((words, "a small stack"), run.start(words, preexec_fn=small).status, DONE)
+
+
+ROWS = [row for name, row in list(globals().items()) if name.startswith("row_")]
+
+
+def rows(run):
+    """Gives the rows that do not hold."""
+    broken = []
+    for row in ROWS:
+        before = run.differences
+        ready(run)
+        try:
+            row(run)
+        except OSError as error:
+            run.hold((row.__name__, "went on to its end"), error, None)
+        if run.differences > before:
+            broken.append(row.__name__.removeprefix("row_"))
+    run.clean()
+    return broken
 
 
 # ---- the stored run
 
 def store():
-    with open(os.path.join(TOP, "examples", "coin.scan"), "rb") as read:
-        file = wanted(["list"], read.read())[0]
-    words = ["motions", "0.125", "12.5", "7.3"]
-    os.makedirs(os.path.join(CRATE, "data"), exist_ok=True)
-    return {"args": "\n".join([*words, "coin.job"]).encode() + b"\n", "data/coin.job": file, "stdout": wanted(words, file)[0]}
+    with open(os.path.join(told.TOP, "examples", "coin.scan"), "rb") as read:
+        file = wanted(["list"], read.read()).out
+    words = ["motions", *SCALE]
+    return {"args": "\n".join([*words, "coin.job"]).encode() + b"\n", "data/coin.job": file, "stdout": wanted(words, file).out}
+
+
+def compare(run, given):
+    for name, data in {} if given.rows else store().items():
+        run.hold(("stored", name), get(CRATE, name), data)
+    for part in () if given.rows else (by_hand, limits, largest_plate):
+        part(run)
+    broken = rows(run)
+    for index in range(0 if given.rows else given.scans):
+        one_scan(run, np.random.default_rng([given.seed, index]), index)
+    print(f"jobtool: {len(ROWS)} rows, that do not hold: {', '.join(broken) or 'none'}")
+    print(f"jobtool: {0 if given.rows else given.scans} scans, {run.compared} comparisons, {run.differences} differences")
+    sys.exit(1 if run.differences else 0)
 
 
 def main():
     parser = argparse.ArgumentParser()
     parser.add_argument("--scans", type=int, default=300)
     parser.add_argument("--seed", type=int, default=1)
+    parser.add_argument("--tell", type=int, default=20, help="how many differences are printed")
+    parser.add_argument("--rows", action="store_true")
     parser.add_argument("--store", action="store_true")
     parser.add_argument("--check", action="store_true")
     given = parser.parse_args()
     if given.store:
+        os.makedirs(os.path.join(CRATE, "data"), exist_ok=True)
         for name, data in store().items():
             put(CRATE, name, data)
-        return
-    if given.check:
+    elif given.check:
         differing = [name for name, data in store().items() if get(CRATE, name) != data]
         print(f"jobtool: stored run by SciPy and exact fractions, differing: {', '.join(differing) or 'nothing'}")
         sys.exit(bool(differing))
-    with tempfile.TemporaryDirectory() as folder:
-        run = Run(folder)
-        for name, data in store().items():
-            run.hold(("stored", name), get(CRATE, name), data)
-        by_hand(run)
-        limits(run)
-        names(run)
-        for index in range(given.scans):
-            one_scan(run, np.random.default_rng([given.seed, index]), index)
-    print(f"jobtool: {given.scans} scans, {run.compared} comparisons, {run.differences} differences")
-    sys.exit(1 if run.differences else 0)
+    else:
+        with tempfile.TemporaryDirectory() as folder:
+            compare(Run(os.path.realpath(folder), given.tell), given)
 
 
 if __name__ == "__main__":

@@ -5,7 +5,7 @@ use Rattle.jobtool.proofs.print_bytes.Tie as tie
 use Rattle.jobtool.proofs.print_bytes.Reads as reads
 use Rattle.jobtool.proofs.print_bytes.Lts as lts
 use Rattle.io.proofs.write_all.Reads as write-all-reads
-use Rattle.text.proofs.Lines.{counts}
+use Rattle.phrases.proofs.Puts.{counts}
 use native.Mathlib.Omega.{arith}
 
 returns : tie.Need-returns
