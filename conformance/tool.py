@@ -5,7 +5,8 @@
     /usr/bin/python3 conformance/tool.py --store     writes the gate's stored run, crates/run_jobtool/{args,stdout,data/coin.job}
     /usr/bin/python3 conformance/tool.py --check     only compares that stored run, and runs no program: ends with 1 if it differs
 
-The program is target/programs/jobtool, or what JOBTOOL names. What needs root or a mount is left out without them, and that is said.
+The program is target/programs/jobtool, or what JOBTOOL names (and one row runs target/programs/plunges, or what PLUNGES names). What needs
+root, a mount or a C compiler is left out without them, and that is said.
 """
 import argparse
 import os
@@ -28,6 +29,7 @@ import told
 from told import DONE, LIMIT, REFUSED, TROUBLE, Told, trouble, wanted, wrong_use
 
 TOOL = os.path.abspath(os.environ.get("JOBTOOL") or os.path.join(told.TOP, "target", "programs", "jobtool"))
+PLUNGES = os.path.abspath(os.environ.get("PLUNGES") or os.path.join(told.TOP, "target", "programs", "plunges"))
 CRATE = os.path.join(told.TOP, "crates", "run_jobtool")
 SCALE = ["0.125", "12.5", "7.3"]
 COMMANDS = [["list"], ["draw"], ["tidy"], ["check"], ["show"], ["info"], ["motions", *SCALE], ["scan"], ["picture"]]
@@ -716,6 +718,50 @@ def row_small_stack(run):
     run.hold("same", run.start(["same", "in", "in"], preexec_fn=small), Told(b"same\n", b"", DONE))
     for words in (["--help"], ["--version"], ["check", "in", "in"]):
         run.hold((words, "a small stack"), run.start(words, preexec_fn=small).status, DONE)
+
+
+# stands before the C library's own calls and notes their order
+NOTING = r"""
+#define _GNU_SOURCE
+#include <dlfcn.h>
+#include <stdio.h>
+#include <sys/stat.h>
+#include <unistd.h>
+static void note(const char *what) { FILE *f = fopen("calls", "a"); if (f) { fprintf(f, "%s\n", what); fclose(f); } }
+int fsync(int fd) { struct stat s; fstat(fd, &s); note(S_ISDIR(s.st_mode) ? "fsync folder" : "fsync file");
+    return ((int (*)(int)) dlsym(RTLD_NEXT, "fsync"))(fd); }
+int rename(const char *a, const char *b) { note("rename"); return ((int (*)(const char *, const char *)) dlsym(RTLD_NEXT, "rename"))(a, b); }
+"""
+
+
+def row_on_the_device_before_renamed(run):
+    """The file is synchronised, then renamed, then its folder is synchronised."""
+    with open(run.path("noting.c"), "w", encoding="ascii") as out:
+        out.write(NOTING)
+    if not shutil.which("cc") or subprocess.run(["cc", "-shared", "-fPIC", "-o", "noting.so", "noting.c", "-ldl"], cwd=run.folder, check=False).returncode:
+        skipped("on_the_device_before_renamed", "no C compiler here")
+        return
+    how = {"env": dict(os.environ, LD_PRELOAD=run.path("noting.so"))}
+    run.hold("an answer", run.start(["tidy", "untidy", "-o", "out"], **how), Told(b"", b"", DONE))
+    run.hold("the order of calls", get(run.folder, "calls").split(b"\n")[:-1], [b"fsync file", b"rename", b"fsync folder"])
+    os.remove(run.path("calls"))
+    run.hold("a refusal", run.start(["tidy", "scan", "-o", "out"], **how).status, REFUSED)
+    run.hold("no call at a refusal", os.path.exists(run.path("calls")), False)
+
+
+def row_plunges(run):
+    """The program of document 01: its status, and a reason where its output cannot be written."""
+    def plunges(data, *words, **how):
+        how = {"stdout": subprocess.PIPE, "stderr": subprocess.PIPE, "input": data, "timeout": 20, **how}
+        return told_of(subprocess.run([PLUNGES, *words], check=False, **how))
+    if not os.path.exists(PLUNGES):
+        skipped("plunges", "target/programs/plunges is not built")
+        return
+    run.hold("a scan", plunges(SCAN), Told(b"plate 8 3 3\n0 1 1 9\n1 1 1 4\ntotal 2\n", b"", DONE))
+    run.hold("no scan", plunges(b""), Told(b"refused 1 0\n", b"", REFUSED))
+    run.hold("a word", (plunges(b"", "coin.scan").status, plunges(b"", "coin.scan").out), (TROUBLE, b""))
+    with open("/dev/full", "wb") as out:
+        run.hold("a full device", plunges(SCAN, stdout=out), Told(b"", b"plunges: standard output: No space left on device\n", TROUBLE))
 
 
 ROWS = [row for name, row in list(globals().items()) if name.startswith("row_")]
