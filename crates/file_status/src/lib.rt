@@ -1,5 +1,5 @@
 // What a file name stands for, asked of the system: a file's kind, permissions and owner, where a link leads, whether it may be
-// written. No contract can say what a system call answers, so no must-fail edit stands here; test_file_status shows it at work.
+// written. No contract can say what a system call answers: test_file_status shows it at work. Which names are handed over is proved.
 ghost use mathlib.Core.Path.{_≡_};
 ghost use mathlib.Core.Bool.{false};
 ghost use Rattle.io.specs.Counts.{Counts};

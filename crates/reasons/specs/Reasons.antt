@@ -5,11 +5,13 @@ use Prim.Native.Nat.{ℕ, _-_, _*_, _/_}
 use lib.Dec.{eqb}
 use lib.ListN.{length, getD}
 use Rattle.refusal.specs.declared.Refusal.{Refusal}
+use Rattle.refusal.specs.Refusals.{largestSide}
 use Rattle.fields.specs.Fields.{headBytes, plungeBytes}
 use Rattle.reading.specs.Reading.{lengthAt, numberAt}
 use Rattle.sink.specs.Sink.{whole}
 use Rattle.motion.specs.declared.Scale.{Scale}
 use Rattle.motion.specs.Motions.{within, sixteenth}
+use Rattle.numerals.specs.Numerals.{numeral}
 use Rattle.phrases.specs.Phrases.{ascii, phrase}
 use Rattle.text.specs.Text.{refusalLine}
 
@@ -19,7 +21,8 @@ abbrev pub kindReason : ℕ → List ℕ
 kindReason kind = phrase (ascii "kind ") kind (ascii " is not 4 or 8")
 
 abbrev pub sidesReason : ℕ → ℕ → List ℕ
-sidesReason width height = phrase (ascii "width ") width (ascii " and height ") ++ phrase [] height (ascii ": sides are 1 to 240")
+sidesReason width height =
+    phrase (ascii "width ") width (ascii " and height ") ++ phrase [] height (ascii ": sides are 1 to ") ++ numeral largestSide
 
 abbrev pub longReason : ℕ → List ℕ
 longReason bytes = phrase (ascii "the answer has ") bytes (ascii " bytes, more than jobtool holds")

@@ -45,8 +45,9 @@ fn append_sides(page: &mut [u8], at: usize, width: u64, height: u64) -> usize
     requires { ⌜ at ≤ length (now page) ⌝ }
     ensures { λ r. ⌜ Appends (now (page .entry)) at (sidesReason width height) (now (page .exit)) r × Counts r (now (page .exit)) ⌝ }
 {
-    let next = phrases::append_phrase(page, at, b"width ", width, b" and height ");
-    phrases::append_phrase(page, next, b"", height, b": sides are 1 to 240")
+    let a = phrases::append_phrase(page, at, b"width ", width, b" and height ");
+    let b = phrases::append_phrase(page, a, b"", height, b": sides are 1 to ");
+    phrases::append_number(page, b, refusal::LARGEST_SIDE as u64)
 }
 
 // Refusal 5: the length needed.

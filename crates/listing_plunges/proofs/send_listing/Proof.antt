@@ -12,7 +12,8 @@ use Rattle.listing_plunges.proofs.send_listing.Statement.{statement}
 use Rattle.listing_plunges.proofs.send_listing.Tie as tie
 
 abbrev Inv-loop : tie.InvT-loop
-Inv-loop head pass relief file out₀ a₀ b₀ width marks₀ place₀ stand₀ out a b marks place stand = (length marks ≡ markPlaces) × Listed pass file head relief out₀ a₀ b₀ stand out a b place
+Inv-loop head pass relief file out₀ a₀ b₀ width marks₀ place₀ stand₀ out a b marks place stand =
+    (length marks ≡ markPlaces) × Listed pass file head relief out₀ a₀ b₀ stand out a b place
 
 abbrev μ-loop : tie.MeasureT-loop
 μ-loop head pass relief file out₀ a₀ b₀ width marks₀ place₀ stand₀ out a b marks place stand = left head stand
