@@ -4,6 +4,7 @@ use mathlib.Core.List.{List, [], _∷_}
 use Prim.Native.Nat.{ℕ, zero, suc, _+_, _*_, _-_, _≤_, _<_, max}
 use native.Mathlib.Omega.{arith}
 use native.Mathlib.Decide.{decLe}
+use native.Mathlib.Nat.{suc-mul}
 use borrow.Author.Tests.{lt-ltb, le-ltb}
 use lib.ListN.{length, getD}
 use Rattle.geometry.specs.declared.Kind.{Kind}
@@ -33,6 +34,10 @@ use Rattle.window_filter.specs.Filter.{windowRows, leaf, rowOf, Filtered
 -- where a row's stretch between the edges lies
 pub between : (w e y h n : ℕ) → 2 * e < w → y < h → h * w ≤ n → (y * w + e + (w - 2 * e) ≤ n)
 between w e y h n a b c = omega (arith, row-room w y h n b c)
+
+-- a row between the edges lies in the map, with the row below it
+pub row-and-below : (w e y h n : ℕ) → 1 ≤ e → 2 * e < w → y + e < h → h * w ≤ n → y * w + e + w + (w - 2 * e) < n
+row-and-below w e y h n a b c d = omega (arith, suc-mul y w, row-room w (y + 1) h n (omega arith) d)
 
 module _ (p : Head) (e : ℕ) where
   abbrev w : ℕ
@@ -66,7 +71,7 @@ module _ (p : Head) (e : ℕ) where
         go (yes a) (no b) = let g : p .height ≤ y = omega arith in rw (lt-ltb _ _ a, le-ltb _ _ g)
         go (no a) b = let g : w ≤ x = omega arith in rw (le-ltb _ _ g)
 
-    on : (i j x y : ℕ) → i ≡ suc x → j ≡ suc y → x < w → y < p .height → at p m (before i j) ≡ getD m (y * w + x) 0
+    pub on : (i j x y : ℕ) → i ≡ suc x → j ≡ suc y → x < w → y < p .height → at p m (before i j) ≡ getD m (y * w + x) 0
     on i j x y e g a b = rw (e, g) (at-cell p m x y a b)
 
     module _ (k : ℕ) (h : Margin p k m) (i j : ℕ) where
@@ -76,7 +81,7 @@ module _ (p : Head) (e : ℕ) where
       east-off : w < i + k → at p m (before i j) ≡ 0
       east-off l = off i j (λ x y e g a b. h .east x y a b (omega arith))
 
-      north-off : j ≤ k → at p m (before i j) ≡ 0
+      pub north-off : j ≤ k → at p m (before i j) ≡ 0
       north-off l = off i j (λ x y e g a b. h .north x y a b (omega arith))
 
       south-off : p .height < j + k → at p m (before i j) ≡ 0
@@ -92,16 +97,20 @@ module _ (p : Head) (e : ℕ) where
     abbrev Written : ℕ → ℕ → Type 0
     Written y n = (j : ℕ) × (x : ℕ) × (e ≤ j) × (j < y) × (x < inner) × (n ≡ j * w + e + x)
 
-    -- rows above y are done, all else is as it was, and two rows stand in arrays
-    pub record FilteredTo (lf : Leaf) (y : ℕ) (above mid below map : List ℕ) : Type 0 where
+    -- rows above y are done, all else is as it was
+    pub record DoneTo (lf : Leaf) (y : ℕ) (map : List ℕ) : Type 0 where
       pub from : e ≤ y
       pub within : y + e ≤ p .height
       pub same : length map ≡ length m
+      pub done : (j x : ℕ) → e ≤ j → j < y → x < inner → getD map (j * w + e + x) 0 ≡ leaf lf (p .kind) (windowOf p m (cell (e + x) j))
+      pub rest : (n : ℕ) → (Written y n → ⊥) → getD map n 0 ≡ getD m n 0
+
+    -- and two rows stand in arrays
+    pub record FilteredTo (lf : Leaf) (y : ℕ) (above mid below map : List ℕ) : Type 0 where
+      pub to : DoneTo lf y map
       pub above-is : Row (before-row y) inner above
       pub mid-is : Row (before-row (y + 1)) inner mid
       pub below-margins : Margins inner below
-      pub done : (j x : ℕ) → e ≤ j → j < y → x < inner → getD map (j * w + e + x) 0 ≡ leaf lf (p .kind) (windowOf p m (cell (e + x) j))
-      pub rest : (n : ℕ) → (Written y n → ⊥) → getD map n 0 ≡ getD m n 0
 
   module _ (m : List ℕ) (clear : 1 ≤ e → Margin p (e + 1) m) where
     west-clear : (i j : ℕ) → i ≤ e → at p m (before i j) ≡ 0
@@ -207,65 +216,83 @@ module _ (p : Head) (e : ℕ) where
             (on m (e + x + 1) (y + 1) (e + x) y (omega arith) (omega arith) (omega arith) (omega arith)))
         go x l (no h) = let g : p .height ≤ y + e = omega arith in rw (le-ltb _ _ g) (sym (south-clear (e + x + 1) (y + 1) (omega arith)))
 
+    pub done-none : (lf : Leaf) → 2 * e < p .height → DoneTo m lf e m
+    done-none lf tall =
+        record { from = omega arith; within = omega arith; same = refl; done = λ j x g h. absurd (omega arith); rest = λ n g. refl }
+
     pub filtered-none : (lf : Leaf) (mid : List ℕ) → 2 * e < w → 2 * e < p .height → Row (rowOf p e m e) inner mid → FilteredTo m lf e zeros mid zeros m
     filtered-none lf mid wide tall r =
         record {
-          from = omega arith;
-          within = omega arith;
-          same = refl;
+          to = done-none lf tall;
           above-is = record { margins = row-zeros inner .margins; cells = λ x l. row-zeros inner .cells x l ∙ sym (north-clear (e + x + 1) e (omega arith)) };
           mid-is = row-own e m mid wide (λ x l. refl) r;
           below-margins = row-zeros inner .margins;
-          done = λ j x g h. absurd (omega arith);
-          rest = λ n g. refl;
         }
 
     -- a place lies in one row, at one column
     apart : (y j x i : ℕ) → x < w → j < y → j * w + x < y * w + i
     apart y j x i a b = omega (arith, row-under w y x j a b)
 
-    -- a row more, and the arrays change roles: the row above is read over next
+    -- rows from y on are as they were
+    pub rest-row : (lf : Leaf) (y : ℕ) (map : List ℕ) → 2 * e < w → DoneTo m lf y map → (j x : ℕ) → y ≤ j → getD map (j * w + x) 0 ≡ getD m (j * w + x) 0
+    rest-row lf y map wide a j x g =
+        a .rest (j * w + x) (λ t. let h = t .3 in let l = t .4 in omega (arith, apart j (t .0) (e + t .1) x (omega arith) (omega arith), t .5))
+
+    -- a row more
+    pub done-more : (lf : Leaf) (y : ℕ) (map new : List ℕ) (f : ℕ → ℕ) → 2 * e < w → DoneTo m lf y map → y + e < p .height
+        → Filled f (y * w + e) (y * w + e + inner) map new
+        → ((x : ℕ) → x < inner → f (y * w + e + x) ≡ leaf lf (p .kind) (windowOf p m (cell (e + x) y))) → DoneTo m lf (y + 1) new
+    done-more lf y map new f wide a tall r s =
+        record {
+          from = omega (arith, a .from);
+          within = omega arith;
+          same = r .same ∙ a .same;
+          done = λ j x g h l. go j x g h l (decLe y j);
+          rest = λ n g. out n g (decLe (y * w + e) n) (decLe (y * w + e + inner) n) ∙ a .rest n (λ t. g (t .0, t .1, t .2, omega (arith, t .3), t .4, t .5));
+        }
+      where
+        go : (j x : ℕ) → e ≤ j → j < y + 1 → x < inner → Dec (y ≤ j) → getD new (j * w + e + x) 0 ≡ leaf lf (p .kind) (windowOf p m (cell (e + x) j))
+        go j x g h l (no d) = r .under (j * w + e + x) (omega (arith, apart y j (e + x) e (omega arith) (omega arith))) ∙ a .done j x g (omega arith) l
+        go j x g h l (yes d) =
+            let k : y ≡ j = omega arith in
+            subst (λ (j : ℕ). getD new (j * w + e + x) 0 ≡ leaf lf (p .kind) (windowOf p m (cell (e + x) j))) k
+            (r .inside (y * w + e + x) (omega arith) (omega arith) ∙ s x l)
+
+        out : (n : ℕ) → (Written m (y + 1) n → ⊥) → Dec (y * w + e ≤ n) → Dec (y * w + e + inner ≤ n) → getD new n 0 ≡ getD map n 0
+        out n g (no c) d = r .under n (omega arith)
+        out n g (yes c) (yes d) = r .over n d
+        out n g (yes c) (no d) = absurd (g (y, n - (y * w + e), a .from, omega arith, omega arith, omega arith))
+
+    -- and the arrays change roles: the row above is read over next
     pub filtered-more : (lf : Leaf) (y : ℕ) (above mid below map below′ new : List ℕ) → 2 * e < w → FilteredTo m lf y above mid below map
         → y + e < p .height → FilteredRow p lf e y above mid below′ map new → FilteredTo m lf (y + 1) mid below′ above new
     filtered-more lf y above mid below map below′ new wide a tall r =
         record {
-          from = omega (arith, a .from);
-          within = omega arith;
-          same = r .map-is .same ∙ a .same;
+          to = done-more lf y map new _ wide (a .to) tall (r .map-is) windows;
           above-is = a .mid-is;
           mid-is = next;
           below-margins = a .above-is .margins;
-          done = λ j x g h l. go j x g h l (decLe y j);
-          rest = λ n g. out n g (decLe (y * w + e) n) (decLe (y * w + e + inner) n) ∙ a .rest n (λ t. g (t .0, t .1, t .2, omega (arith, t .3), t .4, t .5));
         }
       where
         next : Row (before-row m (y + 1 + 1)) inner below′
         next =
             row-own (y + 1) map below′ wide
-            (λ x l. a .rest ((y + 1) * w + e + x)
-            (λ t. let h = t .3 in let g = t .4 in omega (arith, apart (y + 1) (t .0) (e + t .1) (e + x) (omega arith) (omega arith), t .5)))
+            (λ x l. let i : (y + 1) * w + e + x ≡ (y + 1) * w + (e + x) = omega arith in
+            ap (λ (n : ℕ). getD map n 0) i ∙ rest-row lf y map wide (a .to) (y + 1) (e + x) (omega arith) ∙ ap (λ (n : ℕ). getD m n 0) (sym i))
             (r .below-is)
 
-        go : (j x : ℕ) → e ≤ j → j < y + 1 → x < inner → Dec (y ≤ j) → getD new (j * w + e + x) 0 ≡ leaf lf (p .kind) (windowOf p m (cell (e + x) j))
-        go j x g h l (no d) = r .map-is .under (j * w + e + x) (omega (arith, apart y j (e + x) e (omega arith) (omega arith))) ∙ a .done j x g (omega arith) l
-        go j x g h l (yes d) =
-            let k : y ≡ j = omega arith in
+        windows : (x : ℕ) → x < inner
+            → leaf lf (p .kind) (windowRows above mid below′ (margin + (y * w + e + x - (y * w + e)))) ≡ leaf lf (p .kind) (windowOf p m (cell (e + x) y))
+        windows x l =
             let i : y * w + e + x - (y * w + e) ≡ x = omega arith in
-            let k2 : y + 1 + 1 ≡ y + 2 = omega arith in
-            subst (λ (j : ℕ). getD new (j * w + e + x) 0 ≡ leaf lf (p .kind) (windowOf p m (cell (e + x) j))) k
-            (r .map-is .inside (y * w + e + x) (omega arith) (omega arith)
-            ∙ ap (λ (i : ℕ). leaf lf (p .kind) (windowRows above mid below′ (margin + i))) i
+            let k : y + 1 + 1 ≡ y + 2 = omega arith in
+            ap (λ (i : ℕ). leaf lf (p .kind) (windowRows above mid below′ (margin + i))) i
             ∙ ap (leaf lf (p .kind)) (window-rows y above mid below′ (a .above-is) (a .mid-is)
-            (subst (λ (j : ℕ). Row (before-row m j) inner below′) k2 next) x l))
+            (subst (λ (j : ℕ). Row (before-row m j) inner below′) k next) x l)
 
-        out : (n : ℕ) → (Written m (y + 1) n → ⊥) → Dec (y * w + e ≤ n) → Dec (y * w + e + inner ≤ n) → getD new n 0 ≡ getD map n 0
-        out n g (no c) d = r .map-is .under n (omega arith)
-        out n g (yes c) (yes d) = r .map-is .over n d
-        out n g (yes c) (no d) = absurd (g (y, n - (y * w + e), a .from, omega arith, omega arith, omega arith))
-
-    pub filtered-all : (lf : Leaf) (y : ℕ) (above mid below map : List ℕ) → 2 * e < w → FilteredTo m lf y above mid below map → p .height ≤ y + e
+    pub done-all : (lf : Leaf) (y : ℕ) (map : List ℕ) → 2 * e < w → DoneTo m lf y map → p .height ≤ y + e
         → Mapped p (λ c. leaf lf (p .kind) (windowOf p m c)) m map
-    filtered-all lf y above mid below map wide a h =
+    done-all lf y map wide a h =
         record {
           same = a .same;
           holds = λ x j c d. go x j c d (decLe e x) (decLe w (x + e)) (decLe e j) (decLe (p .height) (j + e));
@@ -299,3 +326,8 @@ module _ (p : Head) (e : ℕ) where
 pub highest-filtered : (p : Head) (old new : List ℕ) → Mapped p (λ c. leaf v.Highest (p .kind) (windowOf p old c)) old new
     → Mapped p (highestNear (p .kind) (at p old)) old new
 highest-filtered p old new m = record { same = m .same; holds = λ x y a b. m .holds x y a b ∙ window-max-near p old (cell x y); surplus = m .surplus }
+
+-- a pass for the highest is a pass for what is made, where that is the highest
+pub highest-made : (p : Head) (lf : Leaf) (old new : List ℕ) → lf ≡ v.Highest → Mapped p (λ c. leaf v.Highest (p .kind) (windowOf p old c)) old new
+    → Mapped p (λ c. leaf lf (p .kind) (windowOf p old c)) old new
+highest-made p lf old new e h = subst (λ (l : Leaf). Mapped p (λ c. leaf l (p .kind) (windowOf p old c)) old new) (sym e) h

@@ -1,2 +1,4 @@
 pub mod InPlace
 pub mod Keeping
+pub mod Cross
+pub mod Square

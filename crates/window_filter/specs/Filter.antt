@@ -1,4 +1,5 @@
 -- Serves proofs: a pass over a map in place: three rows in arrays, what is made of a window, what one row asks and leaves.
+use mathlib.Core.Path.{_≡_}
 use mathlib.Core.Bool.{cond}
 use mathlib.Core.List.{List, [], _∷_}
 use Prim.Native.Nat.{ℕ, _+_, _-_, _*_, _≤_, _<_}
@@ -12,7 +13,7 @@ use Rattle.refusal.specs.Refusals.{largestSide}
 use Rattle.refusal.specs.Sides.{Sides}
 use Rattle.buffers.specs.Fill.{Filled}
 use Rattle.buffers.specs.Margin.{Margin}
-use Rattle.row_arrays.specs.Rows.{margin, Margins, Row}
+use Rattle.row_arrays.specs.Rows.{margin, rowPlaces, Margins, Row}
 use Rattle.window_filter.specs.declared.Leaf.{Leaf}
 use Rattle.window_filter.specs.declared.Leaf.the-variants as v
 
@@ -43,6 +44,20 @@ pub record Filterable (p : Head) (e : ℕ) (m : List ℕ) : Type 0 where
   pub long : area p ≤ length m
   pub edge : e ≤ largestSide
   pub zeros : 1 ≤ e → Margin p (e + 1) m
+
+-- some rows and columns lie between the edges
+pub record Between (p : Head) (e : ℕ) : Type 0 where
+  pub columns : 2 * e < p .width
+  pub rows : 2 * e < p .height
+
+-- with an edge, row y between the edges has its neighbours on all sides in the map; an array is at hand
+pub record Growable (p : Head) (e y : ℕ) (row map : List ℕ) : Type 0 where
+  pub sides : Sides p
+  pub long : area p ≤ length map
+  pub edge : 1 ≤ e
+  pub columns : 2 * e < p .width
+  pub here : y + e < p .height
+  pub size : length row ≡ rowPlaces
 
 -- row y of a map, or the first row of the lower edge, can be read between edges into an array
 pub record Readable (p : Head) (e : ℕ) (m : List ℕ) (y : ℕ) (row : List ℕ) : Type 0 where

@@ -1,1 +1,3 @@
 pub mod Filter
+pub mod Cross
+pub mod Square
