@@ -34,17 +34,18 @@ OURS = "library"
 SHARED = os.path.join(HERE, "..", "target", "libharuseopda.so")
 RUNG = 60
 SIDE = 240
-WANTED = {"listing": 3.0, "drawing": 1.0, "clearance map": 1.0}   # at least so many times as fast as OpenCV
-NOISE = 2.5                                                       # the same for the listing of noise
+WANTED = {"listing": 3.0, "drawing": 2.0, "clearance map": 1.0}   # at least so many times as fast as OpenCV
+NOISE = {"listing": 2.5, "drawing": 1.5, "clearance map": 1.0}    # the same for noise
 THIN = 1 / 5                                                      # 13 columns against all depth 1, at most
 
 
-# what was tried where listing is slowest, for the page
-TRIED = ["For kind 8 a sweep loads nine vectors and compares sixteen times for 16 cells, and is most of the time where plunges are few. Tried:",
-         "columns first and then along them, which the compiler turns into vectors only as three loops, as slow as the one; runs of 240 places",
-         "instead of 1,920, half as long again. Not tried: two rows at a time, which share a comparison of rows. A list past 32 KiB is climbed for",
-         "twice; to keep its last plunges instead of its first would leave only the early rungs to the second climb (17 of 74 for the texture, 60",
-         "of 84 for the dome, kind 8).", ""]
+# what was tried and stays as it is, for the page
+TRIED = ["A list past 32 KiB is climbed for twice, once to count it, so that an output that is too short stays untouched: all plates here but all",
+         "depth 1, 13 columns and the text. Looked at: three bytes a plunge in the stage instead of seven would take 10,900 plunges, fewer than any",
+         "of these lists has (16,600 to 95,600); rows of the work buffers that have become bare would take the rest for dome and cone, not for the",
+         "texture and noise, most of whose plunges are found before the region has shrunk. The last plunges kept instead of the first would leave",
+         "17 of 74 rungs to the second climb for the texture, 60 of 84 for the dome. A sweep of kind 8 loads nine vectors and compares sixteen times",
+         "for 16 cells; columns first and then along them is as slow, two rows at a time was not tried.", ""]
 
 
 # ---- plates
@@ -251,7 +252,7 @@ def race(contestants, samples, least):
 # ---- results
 
 def wanted(call, plate):
-    return NOISE if (call, plate) == ("listing", "noise") else WANTED[call]
+    return (NOISE if plate == "noise" else WANTED)[call]
 
 
 def short_of(results):
@@ -366,7 +367,8 @@ def write(results, sides, thin, short, asked, head):
         lines += ["Listing and drawing were skipped.", ""]
     lines += [f"- {line}" for line in short] or ["Nothing of what was timed."]
     lines += ["", f"Wanted: listing at least {WANTED['listing']:g} times as fast as the fastest OpenCV loop on every plate and kind, of noise",
-              f"{NOISE:g} times; clearance and drawing at least level; 13 columns listed in at most a fifth of the time of all depth 1.", ""]
+              f"{NOISE['listing']:g} times; drawing {WANTED['drawing']:g} times, of noise {NOISE['drawing']:g} times; clearance at least level;",
+              "13 columns listed in at most a fifth of the time of all depth 1.", ""]
     lines += TRIED
     behind = slower(results)
     if behind:

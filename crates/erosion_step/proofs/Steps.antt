@@ -1,14 +1,14 @@
 -- Laws of one erosion step: runs of places, borders, and where the nine bytes about a place are a cell's window.
 use mathlib.Core.Path.{_≡_, refl, sym, ap, _∙_, subst}
-use mathlib.Core.Logic.{_⊎_, inl, inr}
+use mathlib.Core.Logic.{_⊎_, inl, inr, _≢_}
 use mathlib.Core.List.{List, [], _∷_, map, List·Memᴰ·head}
 use Prim.Native.Nat.{ℕ, zero, suc, _+_, _*_, _-_, _≤_, _<_, max}
 use native.Mathlib.Omega.{arith}
-use native.Mathlib.Decide.{decLe}
-use native.Mathlib.Nat.{suc-mul, mul-le-mul-right, le-of-lt}
+use native.Mathlib.Decide.{decLe, ℕ-discrete}
+use native.Mathlib.Nat.{suc-mul, mul-le-mul-right}
 use borrow.Author.Tests.{lt-ltb, le-ltb}
 use lib.Arith.{digits-lt}
-use lib.ListN.{length, getD, set}
+use lib.ListN.{length, getD, set, length-set}
 use lib.Seq.{getD-set-same, getD-set-other}
 use Rattle.geometry.specs.declared.Kind.{Kind}
 use Rattle.geometry.specs.declared.Kind.the-variants.{Diamond, Square}
@@ -25,10 +25,10 @@ use Rattle.theory.proofs.Distance.{gap-self, gap-moved, moved, Move, back, on, 
 use Rattle.theory.proofs.Plate.{at-cell}
 use Rattle.buffers.specs.Fill.{Filled}
 use Rattle.buffers.proofs.Fill.{filled-none, filled-more, rows-in, row-under, row-over}
-use Rattle.buffers.proofs.Rooms.{row-room, rows-room}
+use Rattle.buffers.proofs.Rooms.{row-room, rows-room, inner-room}
 use Rattle.buffers.specs.Margin.{Margin}
 use Rattle.buffers.specs.Runs.{Interior}
-use Rattle.erosion_step.specs.Steps.{Eroded, Stepped}
+use Rattle.erosion_step.specs.Steps.{Eroded, SidesZeroed, Stepped}
 
 -- ---- runs
 
@@ -104,119 +104,210 @@ module _ (p : Head) (m : List ℕ) where
   pub low-inside : (x y : ℕ) → 1 ≤ x → x + 1 < p .width → 1 ≤ y → y + 1 < p .height → windowMin (p .kind) (windowIn m (p .width) (y * p .width + x)) ≡ low x y
   low-inside x y a b c d = interior-min-near p m x y a b c d
 
--- ---- the first erosion, row by row
+-- where that is 0 at every cell, zeros are the whole step
+all-zero : (p : Head) (src old new : List ℕ) → Filled (λ n. 0) 0 (area p) old new → ((i j : ℕ) → i < p .width → j < p .height → low p src i j ≡ 0)
+    → Stepped p src old new 0
+all-zero p src old new f z =
+    record {
+      map = record {
+        same = f .same;
+        holds = λ i j a b. f .inside (j * p .width + i) (omega arith) (digits-lt b a) ∙ sym (z i j a b);
+        surplus = f .over;
+      };
+      top = λ i j a b. omega (arith, f .inside (j * p .width + i) (omega arith) (digits-lt b a));
+    }
 
--- rows before y have their numbers inside the border; all other cells are 0
-pub record FirstRows (p : Head) (src : List ℕ) (y : ℕ) (old new : List ℕ) (r : ℕ) : Type 0 where
-  pub same : length new ≡ length old
-  pub done : (i j : ℕ) → 1 ≤ i → i + 1 < p .width → 1 ≤ j → j < y → getD new (j * p .width + i) 0 ≡ lowestNear (p .kind) (at p src) (cell i j)
-  pub rest : (i j : ℕ) → i < p .width → j < p .height → (j < 1) ⊎ ((y ≤ j) ⊎ ((i < 1) ⊎ (p .width ≤ i + 1))) → getD new (j * p .width + i) 0 ≡ 0
-  pub surplus : (n : ℕ) → area p ≤ n → getD new n 0 ≡ getD old n 0
-  pub top : (i j : ℕ) → i < p .width → j < p .height → getD new (j * p .width + i) 0 ≤ r
+-- ---- the first and the last column
 
-module _ (p : Head) (src old : List ℕ) where
-  pub first-none : (new : List ℕ) → Filled (λ n. 0) 0 (area p) old new → FirstRows p src 1 new new 0
-  first-none new f =
+-- the sides of row y lie before place n
+pub record SidesRoom (w y n : ℕ) : Type 0 where
+  pub row : y * w + w ≤ n
+  pub first : y * w < n
+  pub last : y * w + w - 1 < n
+
+pub sides-room : (w y h n : ℕ) → 1 ≤ w → y < h → h * w ≤ n → SidesRoom w y n
+sides-room w y h n a b c =
+    let r = row-room w y h n b c in
+    record { row = r; first = omega arith; last = omega arith }
+
+-- a place inside a row is no row's side
+off-sides : (w x j y : ℕ) → 1 ≤ x → x + 1 < w → (j * w + x ≢ y * w) × (j * w + x ≢ y * w + w - 1)
+off-sides w x j y a b = go (decLe (suc j) y) (decLe (suc y) j)
+  where
+    go : Dec (suc j ≤ y) → Dec (suc y ≤ j) → (j * w + x ≢ y * w) × (j * w + x ≢ y * w + w - 1)
+    go (yes c) d = let e = row-under w y x j (omega arith) c in (omega (arith, e), omega (arith, e))
+    go (no c) (yes d) = let e = row-room w y j (j * w) d (omega arith) in (omega (arith, e), omega (arith, e))
+    go (no c) (no d) = let e : j ≡ y = omega arith in rw e (omega arith, omega arith)
+
+-- a 0 stays one where another is written
+zero-stays : (l : List ℕ) (i n : ℕ) → i < length l → getD l n 0 ≡ 0 → getD (set l i 0) n 0 ≡ 0
+zero-stays l i n h z = go (ℕ-discrete i n)
+  where
+    go : Dec (i ≡ n) → getD (set l i 0) n 0 ≡ 0
+    go (yes e) = subst (λ (k : ℕ). getD (set l i 0) k 0 ≡ 0) e (getD-set-same l i 0 0 h)
+    go (no e) = getD-set-other l i n 0 0 (omega arith) ∙ z
+
+-- a buffer with 0 at the two sides of row y
+abbrev pub sided : ℕ → ℕ → List ℕ → List ℕ
+sided w y m = set (set m (y * w) 0) (y * w + w - 1) 0
+
+module _ (w h : ℕ) (old : List ℕ) where
+  pub sides-none : SidesZeroed w h 0 old old
+  sides-none =
       record {
         same = refl;
-        done = λ i j a b c d. absurd (omega arith);
-        rest = λ i j a b c. f .inside (j * p .width + i) (omega arith) (digits-lt b a);
+        first = λ y a. absurd (omega arith);
+        last = λ y a. absurd (omega arith);
+        inside = λ x y a b c. refl;
         surplus = λ n a. refl;
-        top = λ i j a b. omega (arith, f .inside (j * p .width + i) (omega arith) (digits-lt b a));
       }
 
-  -- a run inside row y leaves the places of other rows and of the border
-  apart-rows : (y i j : ℕ) (mid new : List ℕ) (r : ℕ) → 3 ≤ p .width → i < p .width
-      → Eroded (p .kind) src (p .width) (y * p .width + 1) (y * p .width + p .width - 1) mid new r
-      → (j < y) ⊎ ((y < j) ⊎ ((i < 1) ⊎ (p .width ≤ i + 1))) → getD new (j * p .width + i) 0 ≡ getD mid (j * p .width + i) 0
-  apart-rows y i j mid new r w h e (inl a) = e .filled .under (j * p .width + i) (omega (arith, row-under (p .width) y i j h a))
-  apart-rows y i j mid new r w h e (inr (inl a)) = e .filled .over (j * p .width + i) (omega (arith, row-over (p .width) (suc y) i j a, suc-mul y (p .width)))
-  apart-rows y i j mid new r w h e (inr (inr (inl a))) = go (decLe j y)
-    where
-      go : Dec (j ≤ y) → getD new (j * p .width + i) 0 ≡ getD mid (j * p .width + i) 0
-      go (yes b) = e .filled .under (j * p .width + i) (omega (arith, mul-le-mul-right (p .width) b))
-      go (no b) = e .filled .over (j * p .width + i) (omega (arith, row-over (p .width) (suc y) i j (omega arith), suc-mul y (p .width)))
-  apart-rows y i j mid new r w h e (inr (inr (inr a))) = go (decLe y j)
-    where
-      go : Dec (y ≤ j) → getD new (j * p .width + i) 0 ≡ getD mid (j * p .width + i) 0
-      go (yes b) = e .filled .over (j * p .width + i) (omega (arith, mul-le-mul-right (p .width) b))
-      go (no b) = e .filled .under (j * p .width + i) (omega (arith, row-under (p .width) y i j h (omega arith)))
-
-  pub first-more : (y t r s : ℕ) (mid new : List ℕ) → 3 ≤ p .width → 1 ≤ y → y + 1 < p .height → FirstRows p src y old mid t
-      → Eroded (p .kind) src (p .width) (y * p .width + 1) (y * p .width + p .width - 1) mid new r → s ≡ max t r → FirstRows p src (y + 1) old new s
-  first-more y t r s mid new w a b f e k =
+  pub sides-more : (y : ℕ) (mid : List ℕ) → 1 ≤ w → y < h → h * w ≤ length old → SidesZeroed w h y old mid
+      → SidesZeroed w h (y + 1) old (sided w y mid)
+  sides-more y mid a b c s =
       record {
-        same = e .filled .same ∙ f .same;
-        done = λ i j c d g h. in-turn i j c d g h (decLe y j);
-        rest = λ i j c d g. elsewhere i j c d g;
-        surplus = λ n c. e .filled .over n (omega (arith, mul-le-mul-right (p .width) (le-of-lt b′), suc-mul y (p .width))) ∙ f .surplus n c;
-        top = λ i j c d. topped i j c d (decLe j y) (decLe y j) (decLe 1 i) (decLe (p .width) (i + 1));
+        same = length-set (set mid (y * w) 0) (y * w + w - 1) 0 ∙ length-set mid (y * w) 0 ∙ s .same;
+        first = λ j d. at-first j d (decLe y j);
+        last = λ j d. at-last j d (decLe y j);
+        inside = λ x j d e f. elsewhere (j * w + x) (off-sides w x j y d e .0) (off-sides w x j y d e .1) ∙ s .inside x j d e f;
+        surplus = λ n d. elsewhere n (omega (arith, r .first, d)) (omega (arith, r .last, d)) ∙ s .surplus n d;
       }
     where
-      b′ : suc y < p .height
-      b′ = omega arith
+      r : SidesRoom w y (h * w)
+      r = sides-room w y h (h * w) a b (omega arith)
 
-      in-turn : (i j : ℕ) → 1 ≤ i → i + 1 < p .width → 1 ≤ j → j < y + 1 → Dec (y ≤ j)
-          → getD new (j * p .width + i) 0 ≡ lowestNear (p .kind) (at p src) (cell i j)
-      in-turn i j c d g h (yes l) =
-          let n : j ≡ y = omega arith in
-          rw n (e .filled .inside (y * p .width + i) (omega arith) (omega arith) ∙ low-inside p src i y c d a b)
-      in-turn i j c d g h (no l) = apart-rows y i j mid new r w (omega arith) e (inl (omega arith)) ∙ f .done i j c d g (omega arith)
+      one : y * w < length mid
+      one = omega (arith, r .first, c, s .same)
 
-      elsewhere : (i j : ℕ) → i < p .width → j < p .height → (j < 1) ⊎ ((y + 1 ≤ j) ⊎ ((i < 1) ⊎ (p .width ≤ i + 1))) → getD new (j * p .width + i) 0 ≡ 0
-      elsewhere i j c d (inl g) = apart-rows y i j mid new r w c e (inl (omega arith)) ∙ f .rest i j c d (inl g)
-      elsewhere i j c d (inr (inl g)) = apart-rows y i j mid new r w c e (inr (inl (omega arith))) ∙ f .rest i j c d (inr (inl (omega arith)))
-      elsewhere i j c d (inr (inr g)) = apart-rows y i j mid new r w c e (inr (inr g)) ∙ f .rest i j c d (inr (inr g))
+      two : y * w + w - 1 < length (set mid (y * w) 0)
+      two = omega (arith, r .last, c, s .same, length-set mid (y * w) 0)
 
-      topped : (i j : ℕ) → i < p .width → j < p .height → Dec (j ≤ y) → Dec (y ≤ j) → Dec (1 ≤ i) → Dec (p .width ≤ i + 1) → getD new (j * p .width + i) 0 ≤ s
-      topped i j c d (no g) h l n = omega (arith, apart-rows y i j mid new r w c e (inr (inl (omega arith))), f .top i j c d)
-      topped i j c d (yes g) (no h) l n = omega (arith, apart-rows y i j mid new r w c e (inl (omega arith)), f .top i j c d)
-      topped i j c d (yes g) (yes h) (no l) n = omega (arith, apart-rows y i j mid new r w c e (inr (inr (inl (omega arith)))), f .top i j c d)
-      topped i j c d (yes g) (yes h) (yes l) (yes n) = omega (arith, apart-rows y i j mid new r w c e (inr (inr (inr n))), f .top i j c d)
-      topped i j c d (yes g) (yes h) (yes l) (no n) =
-          let z : j ≡ y = omega arith in
-          rw z (omega (arith, e .top (y * p .width + i) (omega arith) (omega arith)))
+      elsewhere : (n : ℕ) → n ≢ y * w → n ≢ y * w + w - 1 → getD (sided w y mid) n 0 ≡ getD mid n 0
+      elsewhere n d e = getD-set-other (set mid (y * w) 0) (y * w + w - 1) n 0 0 (omega arith) ∙ getD-set-other mid (y * w) n 0 0 (omega arith)
 
-  -- all rows done: the whole step
-  pub first-all : (y r : ℕ) (zeroed new : List ℕ) → p .height ≤ y + 1 → y ≤ max 1 (p .height - 1) → Filled (λ n. 0) 0 (area p) old zeroed
-      → FirstRows p src y zeroed new r → Stepped p src old new r
-  first-all y r zeroed new h l z f = record {
-    map =
-        record {
-          same = f .same ∙ z .same;
-          holds =
-              λ i j a b. at-cell′ i j a b (decLe 1 i) (decLe (i + 2) (p .width)) (decLe 1 j) (decLe (j + 2) (p .height));
-          surplus =
-              λ n a. f .surplus n a ∙ z .over n a;
-        };
-    top = f .top;
-  }
-    where
-      at-cell′ : (i j : ℕ) → i < p .width → j < p .height → Dec (1 ≤ i) → Dec (i + 2 ≤ p .width) → Dec (1 ≤ j) → Dec (j + 2 ≤ p .height)
-          → getD new (j * p .width + i) 0 ≡ lowestNear (p .kind) (at p src) (cell i j)
-      at-cell′ i j a b (no c) d e g = let z : i ≡ 0 = omega arith in
-          f .rest i j a b (inr (inr (inl (omega arith)))) ∙ sym (ap (λ (n : ℕ). lowestNear (p .kind) (at p src) (cell n j)) z ∙ low-west p src j)
-      at-cell′ i j a b (yes c) (no d) e g = f .rest i j a b (inr (inr (inr (omega arith)))) ∙ sym (low-east p src i j (omega arith))
-      at-cell′ i j a b (yes c) (yes d) (no e) g = let z : j ≡ 0 = omega arith in
-          f .rest i j a b (inl (omega arith)) ∙ sym (ap (λ (n : ℕ). lowestNear (p .kind) (at p src) (cell i n)) z ∙ low-top p src i)
-      at-cell′ i j a b (yes c) (yes d) (yes e) (no g) = f .rest i j a b (inr (inl (omega arith))) ∙ sym (low-bottom p src i j a (omega arith))
-      at-cell′ i j a b (yes c) (yes d) (yes e) (yes g) = f .done i j c (omega arith) e (omega arith)
+      kept : (n : ℕ) → getD mid n 0 ≡ 0 → getD (sided w y mid) n 0 ≡ 0
+      kept n z = zero-stays (set mid (y * w) 0) (y * w + w - 1) n two (zero-stays mid (y * w) n one z)
 
-  -- of a plate less than three wide the first erosion is 0
-  pub first-narrow : (new : List ℕ) → p .width < 3 → Filled (λ n. 0) 0 (area p) old new → Stepped p src old new 0
-  first-narrow new h f =
+      at-first : (j : ℕ) → j < y + 1 → Dec (y ≤ j) → getD (sided w y mid) (j * w) 0 ≡ 0
+      at-first j d (yes e) =
+          let k : j ≡ y = omega arith in
+          rw k (zero-stays (set mid (y * w) 0) (y * w + w - 1) (y * w) two (getD-set-same mid (y * w) 0 0 one))
+      at-first j d (no e) = kept (j * w) (s .first j (omega arith))
+
+      at-last : (j : ℕ) → j < y + 1 → Dec (y ≤ j) → getD (sided w y mid) (j * w + w - 1) 0 ≡ 0
+      at-last j d (yes e) = let k : j ≡ y = omega arith in rw k (getD-set-same (set mid (y * w) 0) (y * w + w - 1) 0 0 two)
+      at-last j d (no e) = kept (j * w + w - 1) (s .last j (omega arith))
+
+  pub sides-end : (y : ℕ) (new : List ℕ) → y ≤ h → h ≤ y → SidesZeroed w h y old new → SidesZeroed w h h old new
+  sides-end y new a b s = let k : y ≡ h = omega arith in subst (λ (j : ℕ). SidesZeroed w h j old new) k s
+
+-- ---- the first erosion, all rows in one run
+
+-- where the run of a first erosion lies among n bytes
+pub record FirstRoom (w n : ℕ) : Type 0 where
+  pub under : w + 1 ≤ n - w - 1
+  pub over : n - w - 1 + w + 1 ≡ n
+
+pub first-room : (w h : ℕ) → 3 ≤ w → 3 ≤ h → FirstRoom w (h * w)
+first-room w h a b =
+    let r = rows-room w 1 2 h (h * w) (omega arith) (omega arith) b (omega arith) in
+    record { under = omega (arith, r, a); over = omega (arith, r, a) }
+
+pub first-interior : (w h : ℕ) (m : List ℕ) → 3 ≤ w → 3 ≤ h → h * w ≤ length m → Interior w (w + 1) (h * w - w - 1) m
+first-interior w h m a b c =
+    let r = first-room w h a b in
+    record { under = omega arith; ordered = r .under; over = omega (arith, r .over, c) }
+
+-- the zeros before the run, the run, the zeros after it, and the sides
+pub record FirstRun (p : Head) (src old first mid second new : List ℕ) (r : ℕ) : Type 0 where
+  pub upper : Filled (λ n. 0) 0 (p .width + 1) old first
+  pub run : Eroded (p .kind) src (p .width) (p .width + 1) (area p - p .width - 1) first mid r
+  pub lower : Filled (λ n. 0) (area p - p .width - 1) (area p) mid second
+  pub sides : SidesZeroed (p .width) (p .height) (p .height) second new
+
+module _ (p : Head) (src old first mid second new : List ℕ) (r : ℕ) (wide : 3 ≤ p .width) (high : 3 ≤ p .height) (e : FirstRun p src old first mid second
+    new r) where
+  room : FirstRoom (p .width) (area p)
+  room = first-room (p .width) (p .height) wide high
+
+  -- the border is 0
+  first-side : (i j : ℕ) → i < p .width → j < p .height → (i < 1) ⊎ (p .width ≤ i + 1) → getD new (j * p .width + i) 0 ≡ 0
+  first-side i j a b (inl c) = let z : j * p .width + i ≡ j * p .width = omega arith in ap (λ (n : ℕ). getD new n 0) z ∙ e .sides .first j b
+  first-side i j a b (inr c) =
+      let z : j * p .width + i ≡ j * p .width + p .width - 1 = omega arith in
+      ap (λ (n : ℕ). getD new n 0) z ∙ e .sides .last j b
+
+  first-top : (i : ℕ) → 1 ≤ i → i + 1 < p .width → getD new (0 * p .width + i) 0 ≡ 0
+  first-top i a b =
+      e .sides .inside i 0 a b (omega arith)
+      ∙ e .lower .under (0 * p .width + i) (omega (arith, room .under))
+      ∙ e .run .filled .under (0 * p .width + i) (omega arith)
+      ∙ e .upper .inside (0 * p .width + i) (omega arith) (omega arith)
+
+  first-bottom : (i j : ℕ) → 1 ≤ i → i + 1 < p .width → j < p .height → p .height ≤ j + 1 → getD new (j * p .width + i) 0 ≡ 0
+  first-bottom i j a b c d =
+      let z : suc j ≡ p .height = omega arith in
+      let l : j * p .width + p .width ≡ area p = sym (suc-mul j (p .width)) ∙ ap (λ (n : ℕ). n * p .width) z in
+      e .sides .inside i j a b c ∙ e .lower .inside (j * p .width + i) (omega (arith, room .over, l)) (omega (arith, l))
+
+  -- places of inner cells lie in the run
+  first-in : (i j : ℕ) → 1 ≤ i → i + 1 < p .width → 1 ≤ j → j + 1 < p .height → (p .width + 1 ≤ j * p .width + i) × (j * p .width + i < area p - p .width - 1)
+  first-in i j a b c d = let s = inner-room (p .width) j (p .height) (area p) c d (omega arith) in (omega (arith, s .0), omega (arith, s .1, room .over))
+
+  first-inner : (i j : ℕ) → 1 ≤ i → i + 1 < p .width → 1 ≤ j → j + 1 < p .height → getD new (j * p .width + i) 0 ≡ getD mid (j * p .width + i) 0
+  first-inner i j a b c d = e .sides .inside i j a b (omega arith) ∙ e .lower .under (j * p .width + i) (first-in i j a b c d .1)
+
+  first-held : (i j : ℕ) → i < p .width → j < p .height → Dec (1 ≤ i) → Dec (i + 2 ≤ p .width) → Dec (1 ≤ j) → Dec (j + 2 ≤ p .height)
+      → (getD new (j * p .width + i) 0 ≡ low p src i j) × (getD new (j * p .width + i) 0 ≤ r)
+  first-held i j a b (no c) d f g =
+      let z : i ≡ 0 = omega arith in
+      let s = first-side i j a b (inl (omega arith)) in
+      (s ∙ sym (ap (λ (n : ℕ). low p src n j) z ∙ low-west p src j), omega (arith, s))
+  first-held i j a b (yes c) (no d) f g =
+      let s = first-side i j a b (inr (omega arith)) in
+      (s ∙ sym (low-east p src i j (omega arith)), omega (arith, s))
+  first-held i j a b (yes c) (yes d) (no f) g =
+      let z : j ≡ 0 = omega arith in
+      let s = ap (λ (n : ℕ). getD new (n * p .width + i) 0) z ∙ first-top i c (omega arith) in
+      (s ∙ sym (ap (λ (n : ℕ). low p src i n) z ∙ low-top p src i), omega (arith, s))
+  first-held i j a b (yes c) (yes d) (yes f) (no g) =
+      let s = first-bottom i j c (omega arith) b (omega arith) in
+      (s ∙ sym (low-bottom p src i j a (omega arith)), omega (arith, s))
+  first-held i j a b (yes c) (yes d) (yes f) (yes g) =
+      let c′ : i + 1 < p .width = omega arith in
+      let g′ : j + 1 < p .height = omega arith in
+      let s = first-inner i j c c′ f g′ in
+      let n = first-in i j c c′ f g′ in
+      let v = e .run .filled .inside (j * p .width + i) (n .0) (n .1) in
+      (s ∙ v ∙ low-inside p src i j c c′ f g′, omega (arith, s, e .run .top (j * p .width + i) (n .0) (n .1)))
+
+  pub first-all : Stepped p src old new r
+  first-all =
       record {
         map = record {
-          same = f .same;
-          holds = λ i j a b. f .inside (j * p .width + i) (omega arith) (digits-lt b a) ∙ sym (zero i j (decLe 1 i));
-          surplus = f .over;
+          same = e .sides .same ∙ e .lower .same ∙ e .run .filled .same ∙ e .upper .same;
+          holds = λ i j a b. first-held i j a b (decLe 1 i) (decLe (i + 2) (p .width)) (decLe 1 j) (decLe (j + 2) (p .height)) .0;
+          surplus = λ n a. past n a;
         };
-        top = λ i j a b. omega (arith, f .inside (j * p .width + i) (omega arith) (digits-lt b a));
+        top = λ i j a b. first-held i j a b (decLe 1 i) (decLe (i + 2) (p .width)) (decLe 1 j) (decLe (j + 2) (p .height)) .1;
       }
     where
-      zero : (i j : ℕ) → Dec (1 ≤ i) → lowestNear (p .kind) (at p src) (cell i j) ≡ 0
-      zero i j (no c) = let z : i ≡ 0 = omega arith in ap (λ (n : ℕ). lowestNear (p .kind) (at p src) (cell n j)) z ∙ low-west p src j
-      zero i j (yes c) = low-east p src i j (omega arith)
+      past : (n : ℕ) → area p ≤ n → getD new n 0 ≡ getD old n 0
+      past n a =
+          e .sides .surplus n a
+          ∙ e .lower .over n a
+          ∙ e .run .filled .over n (omega (arith, room .over, a))
+          ∙ e .upper .over n (omega (arith, room .under, room .over, a))
+
+-- of a plate less than three wide or high the first erosion is 0
+pub first-small : (p : Head) (src old new : List ℕ) → (p .width < 3) ⊎ (p .height < 3) → Filled (λ n. 0) 0 (area p) old new → Stepped p src old new 0
+first-small p src old new h f = all-zero p src old new f (λ i j a b. none i j a h (decLe 1 i) (decLe 1 j))
+  where
+    none : (i j : ℕ) → i < p .width → (p .width < 3) ⊎ (p .height < 3) → Dec (1 ≤ i) → Dec (1 ≤ j) → low p src i j ≡ 0
+    none i j a (inl g) (no c) d = let z : i ≡ 0 = omega arith in ap (λ (n : ℕ). low p src n j) z ∙ low-west p src j
+    none i j a (inl g) (yes c) d = low-east p src i j (omega arith)
+    none i j a (inr g) c (no d) = let z : j ≡ 0 = omega arith in ap (λ (n : ℕ). low p src i n) z ∙ low-top p src i
+    none i j a (inr g) c (yes d) = low-bottom p src i j a (omega arith)
 
 -- ---- a later erosion, all rows in one run
 
@@ -338,15 +429,7 @@ module _ (p : Head) (k : ℕ) (src old first second new : List ℕ) (r : ℕ) (s
 -- where fewer rows are left than a ball wants, the next erosion is 0
 pub next-gone : (p : Head) (k : ℕ) (src old new : List ℕ) → p .height < 2 * k + 3 → Margin p k src → Filled (λ n. 0) 0 (area p) old new
     → Stepped p src old new 0
-next-gone p k src old new h m f =
-    record {
-      map = record {
-        same = f .same;
-        holds = λ i j a b. f .inside (j * p .width + i) (omega arith) (digits-lt b a) ∙ sym (none i j a b (decLe j k));
-        surplus = f .over;
-      };
-      top = λ i j a b. omega (arith, f .inside (j * p .width + i) (omega arith) (digits-lt b a));
-    }
+next-gone p k src old new h m f = all-zero p src old new f (λ i j a b. none i j a b (decLe j k))
   where
     none : (i j : ℕ) → i < p .width → j < p .height → Dec (j ≤ k) → lowestNear (p .kind) (at p src) (cell i j) ≡ 0
     none i j a b (yes c) = fringe-top p k src m i j a b c

@@ -4,13 +4,14 @@ use mathlib.Core.Bool.{Bool, true, false, cond}
 use mathlib.Core.List.{List, [], _∷_, _++_, map, map-append}
 use Prim.Native.Nat.{ℕ, zero, suc, _+_, _*_, _-_, _%_, _/_, _≤_, _<_}
 use native.Mathlib.Omega.{arith}
-use native.Mathlib.Nat.{mod-lt, div-lt-iff-lt-mul}
+use native.Mathlib.Nat.{mod-lt, div-lt-iff-lt-mul, mul-le-mul}
 use native.Mathlib.Numerals.{add-one}
 use lib.Dec.{eqb}
 use lib.ListN.{length, getD, take, drop, length-take, length-map}
 use lib.Seq.{take-append-seam, take-suc, getD-take}
 use Rattle.geometry.specs.declared.Plunge.{Plunge}
 use Rattle.geometry.specs.Lists.{gather, common}
+use Rattle.geometry.specs.Plate.{area}
 use Rattle.refusal.specs.Refusals.{largestSide}
 use Rattle.fields.specs.Fields.{plungeField, plungeFields, plungeBytes}
 use Rattle.fields.specs.Writing.{spliced}
@@ -18,33 +19,57 @@ use Rattle.fields.proofs.Splice.{splice-nil, splice-start, splice-length, splic
 use Rattle.fields.proofs.Encoding.{plungeFields-append, plungeFields-length}
 use Rattle.residue_marks.specs.Marks.{onPlace, markedPlaces, Noted}
 use Rattle.residue_marks.proofs.Marking.{tally-few}
-use Rattle.residue_series.specs.Plunges.{plungeAt, onMark, marksTo}
+use Rattle.residue_series.specs.Plunges.{onMark, marksTo}
+use Rattle.climb.specs.declared.Found.{Found}
+use Rattle.climb.specs.Climbs.{FoundMarks}
 use Rattle.residue_series.proofs.Plunges.{tally-length}
 use Rattle.listing_pass.specs.declared.Pass.{Pass}
 use Rattle.listing_pass.specs.declared.Pass.the-variants.{Write, Stage}
 use Rattle.listing_pass.specs.Sent.{Compared, Staged, Sent}
 use Rattle.listing_pass.proofs.Common.{common-le}
 use Rattle.listing_pass.proofs.Passes.{sent-none, sent-written, sent-staged}
+use Rattle.listing_plunges.specs.Runs.{PlaceOf}
 
 -- the column and the row of a place
-pub place-small : (n w : ℕ) → 1 ≤ w → w ≤ largestSide → n < largestSide * w → (n % w < largestSide) × (n / w < largestSide)
-place-small n w a b h = (omega (arith, mod-lt n a), div-lt-iff-lt-mul a .1 h)
+module _ (f : Found) (n : ℕ) (o : PlaceOf f n) where
+  pub place-small : (n % f .region .head .width + f .region .column < largestSide) × (n / f .region .head .width + f .region .row < largestSide)
+  place-small =
+      let a = o .across in
+      let b = o .down in
+      (omega (arith, mod-lt n (o .wide)), omega (arith, div-lt-iff-lt-mul (o .wide) .1 (o .within)))
+
+  pub place-few : n < largestSide * largestSide
+  place-few =
+      let a = o .across in
+      let b = o .down in
+      let h : f .region .head .height ≤ largestSide = omega arith in
+      let w : f .region .head .width ≤ largestSide = omega arith in
+      omega (arith, o .within, mul-le-mul h w)
+
+-- a run's region has no more cells than a plate may have
+pub found-few : (f : Found) (marks : List ℕ) → FoundMarks f marks → area (f .region .head) ≤ largestSide * largestSide
+found-few f marks m =
+    let a = m .across in
+    let b = m .down in
+    let h : f .region .head .height ≤ largestSide = omega arith in
+    let w : f .region .head .width ≤ largestSide = omega arith in
+    mul-le-mul h w
 
 -- ---- plunges at noted places
 
 -- the plunge of a noted place
-abbrev pub notedPlunge : ℕ → ℕ → ℕ → List ℕ → ℕ → Plunge
-notedPlunge w r start marks i = plungeAt w r (start + i) (getD marks i 0)
+abbrev pub notedPlunge : (ℕ → ℕ → Plunge) → ℕ → List ℕ → ℕ → Plunge
+notedPlunge f start marks i = f (start + i) (getD marks i 0)
 
 -- the marked places of an array stand for its plunges, and lie before its end
-module _ (w r start : ℕ) (marks : List ℕ) where
-  places-plunges : (n i : ℕ) → map (notedPlunge w r start marks) (markedPlaces marks n i) ≡ gather n i (λ j. onMark w r (start + j) (getD marks j 0))
+module _ (f : ℕ → ℕ → Plunge) (start : ℕ) (marks : List ℕ) where
+  places-plunges : (n i : ℕ) → map (notedPlunge f start marks) (markedPlaces marks n i) ≡ gather n i (λ j. onMark f (start + j) (getD marks j 0))
   places-plunges zero i = refl
   places-plunges (suc n) i =
-      map-append (notedPlunge w r start marks) (onPlace marks i) (markedPlaces marks n (suc i))
+      map-append (notedPlunge f start marks) (onPlace marks i) (markedPlaces marks n (suc i))
       ∙ ap₂ (λ l o. l ++ o) (go (eqb (getD marks i 0) 0)) (places-plunges n (suc i))
     where
-      go : (t : Bool) → map (notedPlunge w r start marks) (cond t [] (i ∷ [])) ≡ cond t [] (notedPlunge w r start marks i ∷ [])
+      go : (t : Bool) → map (notedPlunge f start marks) (cond t [] (i ∷ [])) ≡ cond t [] (notedPlunge f start marks i ∷ [])
       go true = refl
       go false = refl
 
@@ -60,11 +85,11 @@ places-below marks (suc n) i j h = go (eqb (getD marks i 0) 0) j h (places-below
     go false (suc j) h r = omega (arith, r j (omega arith))
 
 -- the plunges of the first j noted places are written from a place on
-pub record Put (w r start : ℕ) (marks noted : List ℕ) (at : ℕ) (old : List ℕ) (j : ℕ) (new : List ℕ) (place : ℕ) : Type 0 where
-  pub written : new ≡ spliced old at (plungeFields (map (notedPlunge w r start marks) (take j noted)))
+pub record Put (f : ℕ → ℕ → Plunge) (start : ℕ) (marks noted : List ℕ) (at : ℕ) (old : List ℕ) (j : ℕ) (new : List ℕ) (place : ℕ) : Type 0 where
+  pub written : new ≡ spliced old at (plungeFields (map (notedPlunge f start marks) (take j noted)))
   pub reached : place ≡ at + plungeBytes * j
 
-module _ (w r start : ℕ) (marks noted₀ noted : List ℕ) (at : ℕ) (old : List ℕ) (number count : ℕ) (n : Noted marks 0 number 0 noted₀ count noted)
+module _ (f : ℕ → ℕ → Plunge) (start : ℕ) (marks noted₀ noted : List ℕ) (at : ℕ) (old : List ℕ) (number count : ℕ) (n : Noted marks 0 number 0 noted₀ count noted)
     (long : number ≤ length noted₀) where
   all : take count noted ≡ markedPlaces marks number 0
   all = let e : number - 0 ≡ number = omega arith in n .places ∙ ap (λ (k : ℕ). markedPlaces marks k 0) e
@@ -72,11 +97,11 @@ module _ (w r start : ℕ) (marks noted₀ noted : List ℕ) (at : ℕ) (old : L
   counted : length (markedPlaces marks number 0) ≡ count
   counted = sym (ap length all) ∙ length-take count noted ∙ (let a = n .few in let b = n .same in omega arith)
 
-  plunges : map (notedPlunge w r start marks) (take count noted) ≡ marksTo number w r start marks
-  plunges = ap (map (notedPlunge w r start marks)) all ∙ places-plunges w r start marks number 0
+  plunges : map (notedPlunge f start marks) (take count noted) ≡ marksTo number f start marks
+  plunges = ap (map (notedPlunge f start marks)) all ∙ places-plunges f start marks number 0
 
-  pub noted-count : length (marksTo number w r start marks) ≡ count
-  noted-count = sym (ap length plunges) ∙ length-map (take count noted) (notedPlunge w r start marks) ∙ ap length all ∙ counted
+  pub noted-count : length (marksTo number f start marks) ≡ count
+  noted-count = sym (ap length plunges) ∙ length-map (take count noted) (notedPlunge f start marks) ∙ ap length all ∙ counted
 
   -- a noted place lies before the run's end
   pub noted-below : (j : ℕ) → j < count → getD noted j 0 < number
@@ -88,31 +113,31 @@ module _ (w r start : ℕ) (marks noted₀ noted : List ℕ) (at : ℕ) (old : L
         places-below marks number 0 j (omega (arith, counted)),
       )
 
-  pub put-none : Put w r start marks noted at old 0 old at
+  pub put-none : Put f start marks noted at old 0 old at
   put-none = record { written = sym (splice-nil old at); reached = omega arith }
 
-  module _ (j : ℕ) (mid : List ℕ) (place : ℕ) (s : Put w r start marks noted at old j mid place)
-      (room : at + plungeBytes * length (marksTo number w r start marks) ≤ length old) (within : j ≤ count) where
-    sized : length (plungeFields (map (notedPlunge w r start marks) (take j noted))) ≡ plungeBytes * j
+  module _ (j : ℕ) (mid : List ℕ) (place : ℕ) (s : Put f start marks noted at old j mid place)
+      (room : at + plungeBytes * length (marksTo number f start marks) ≤ length old) (within : j ≤ count) where
+    sized : length (plungeFields (map (notedPlunge f start marks) (take j noted))) ≡ plungeBytes * j
     sized =
         let a = n .few in
         let b = n .same in
         omega (
           arith,
-          plungeFields-length (map (notedPlunge w r start marks) (take j noted)),
-          length-map (take j noted) (notedPlunge w r start marks),
+          plungeFields-length (map (notedPlunge f start marks) (take j noted)),
+          length-map (take j noted) (notedPlunge f start marks),
           length-take j noted,
         )
 
     pub put-same : length mid ≡ length old
     put-same = ap length (s .written) ∙ splice-length old at _ (omega (arith, sized, noted-count, room))
 
-    pub put-end : count ≤ j → (place ≡ at + plungeBytes * length (marksTo number w r start marks))
-        × (mid ≡ spliced old at (plungeFields (marksTo number w r start marks)))
+    pub put-end : count ≤ j → (place ≡ at + plungeBytes * length (marksTo number f start marks))
+        × (mid ≡ spliced old at (plungeFields (marksTo number f start marks)))
     put-end h =
         let e : j ≡ count = omega arith in (
           omega (arith, s .reached, noted-count),
-          s .written ∙ ap (λ (i : ℕ). spliced old at (plungeFields (map (notedPlunge w r start marks) (take i noted)))) e
+          s .written ∙ ap (λ (i : ℕ). spliced old at (plungeFields (map (notedPlunge f start marks) (take i noted)))) e
               ∙ ap (λ (l : List Plunge). spliced old at (plungeFields l)) plunges,
         )
 
@@ -121,30 +146,30 @@ module _ (w r start : ℕ) (marks noted₀ noted : List ℕ) (at : ℕ) (old : L
       put-room = omega (arith, s .reached, put-same, noted-count, room)
 
       -- one plunge more
-      pub put-more : (q : Plunge) (new : List ℕ) → q ≡ notedPlunge w r start marks (getD noted j 0) → new ≡ spliced mid place (plungeField q)
-          → Put w r start marks noted at old (j + 1) new (place + plungeBytes)
+      pub put-more : (q : Plunge) (new : List ℕ) → q ≡ notedPlunge f start marks (getD noted j 0) → new ≡ spliced mid place (plungeField q)
+          → Put f start marks noted at old (j + 1) new (place + plungeBytes)
       put-more q new is e =
           record {
             written =
                 e ∙ ap (λ (o : Plunge). spliced mid place (plungeField o)) is
-                ∙ ap₂ (λ (l : List ℕ) (i : ℕ). spliced l i (plungeField (notedPlunge w r start marks (getD noted j 0)))) (s .written) at-end
-                ∙ splice-splice old at (plungeFields (map (notedPlunge w r start marks) (take j noted))) _ (omega (arith, sized, noted-count, room))
+                ∙ ap₂ (λ (l : List ℕ) (i : ℕ). spliced l i (plungeField (notedPlunge f start marks (getD noted j 0)))) (s .written) at-end
+                ∙ splice-splice old at (plungeFields (map (notedPlunge f start marks) (take j noted))) _ (omega (arith, sized, noted-count, room))
                 ∙ ap (spliced old at) (sym next);
             reached = omega (arith, s .reached);
           }
         where
-          at-end : place ≡ at + length (plungeFields (map (notedPlunge w r start marks) (take j noted)))
+          at-end : place ≡ at + length (plungeFields (map (notedPlunge f start marks) (take j noted)))
           at-end = omega (arith, s .reached, sized)
 
-          next : plungeFields (map (notedPlunge w r start marks) (take (j + 1) noted))
-              ≡ plungeFields (map (notedPlunge w r start marks) (take j noted)) ++ plungeField (notedPlunge w r start marks (getD noted j 0))
+          next : plungeFields (map (notedPlunge f start marks) (take (j + 1) noted))
+              ≡ plungeFields (map (notedPlunge f start marks) (take j noted)) ++ plungeField (notedPlunge f start marks (getD noted j 0))
           next =
               let a = n .few in
               let b = n .same in
-              ap (λ (l : List ℕ). plungeFields (map (notedPlunge w r start marks) l))
+              ap (λ (l : List ℕ). plungeFields (map (notedPlunge f start marks) l))
               (ap (λ (i : ℕ). take i noted) (add-one j) ∙ take-suc noted j 0 (omega arith))
-              ∙ ap plungeFields (map-append (notedPlunge w r start marks) (take j noted) (getD noted j 0 ∷ []))
-              ∙ plungeFields-append (map (notedPlunge w r start marks) (take j noted)) (notedPlunge w r start marks (getD noted j 0) ∷ [])
+              ∙ ap plungeFields (map-append (notedPlunge f start marks) (take j noted) (getD noted j 0 ∷ []))
+              ∙ plungeFields-append (map (notedPlunge f start marks) (take j noted)) (notedPlunge f start marks (getD noted j 0) ∷ [])
 
 -- ---- a run sent
 
@@ -198,5 +223,5 @@ module _ (file : List ℕ) (at : ℕ) (qs : List Plunge) (old new : List ℕ) (n
       record { place = ap (λ (i : ℕ). at + i) as-put; like = ap₂ eqb as-put k }
 
 -- a run has no more plunges than places
-pub marks-few : (n w r start : ℕ) (marks : List ℕ) → length (marksTo n w r start marks) ≤ n
-marks-few n w r start marks = omega (arith, tally-length w r start marks n, tally-few marks n)
+pub marks-few : (n : ℕ) (f : ℕ → ℕ → Plunge) (start : ℕ) (marks : List ℕ) → length (marksTo n f start marks) ≤ n
+marks-few n f start marks = omega (arith, tally-length f start marks n, tally-few marks n)

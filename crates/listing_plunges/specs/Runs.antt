@@ -1,30 +1,23 @@
--- Serves proofs: the plunges of a run by an array of its marks, and what writing and sending them ask.
-use mathlib.Core.Path.{_≡_}
-use mathlib.Core.List.{List, []}
+-- Serves proofs: what making and sending the plunges of a run ask.
+use mathlib.Core.List.{List}
 use Prim.Native.Nat.{ℕ, _+_, _*_, _≤_, _<_}
 use lib.ListN.{length}
-use Rattle.geometry.specs.declared.Plunge.{Plunge}
+use Rattle.geometry.specs.Plate.{area}
 use Rattle.refusal.specs.Refusals.{largestSide}
 use Rattle.fields.specs.Fields.{plungeBytes}
 use Rattle.fields.specs.Lengths.{IsLength}
 use Rattle.residue_marks.specs.Marks.{markPlaces}
-use Rattle.residue_series.specs.Plunges.{marksTo}
+use Rattle.climb.specs.declared.Found.{Found}
+use Rattle.climb.specs.Climbs.{foundPlunges, FoundMarks}
 use Rattle.listing_pass.specs.declared.Pass.{Pass}
 use Rattle.listing_pass.specs.Sent.{Room}
-use Rattle.listing_plunges.specs.declared.Found.{Found}
 
--- the plunges of a run, by an array of its marks
-abbrev pub foundPlunges : Found → List ℕ → List Plunge
-foundPlunges f marks = marksTo (f .places .number) (f .width) (f .reach .0) (f .places .start) marks
-
--- a run of places of a plate with fitting sides, and an array of its marks
-pub record FoundMarks (f : Found) (marks : List ℕ) : Type 0 where
-  pub wide : 1 ≤ f .width
-  pub narrow : f .width ≤ largestSide
-  pub within : f .places .start + f .places .number ≤ largestSide * f .width
-  pub short : f .places .number < markPlaces
-  pub size : length marks ≡ markPlaces
-  pub none : f .deepest ≡ 0 → foundPlunges f marks ≡ []
+-- a place of a run's region, which lies on a plate of fitting sides
+pub record PlaceOf (f : Found) (n : ℕ) : Type 0 where
+  pub wide : 1 ≤ f .region .head .width
+  pub across : f .region .column + f .region .head .width ≤ largestSide
+  pub down : f .region .row + f .region .head .height ≤ largestSide
+  pub within : n < area (f .region .head)
 
 -- what sending them asks: a place that leaves room for all of them, in the output too where they are written
 pub record ToSend (pass : Pass) (f : Found) (marks : List ℕ) (at : ℕ) (out : List ℕ) : Type 0 where

@@ -1,14 +1,11 @@
 // The listing of a relief, sent run by run in its order: written to an output, compared with a file, or staged.
-use geometry::Clearance;
+use climb::Found;
 use geometry::Head;
-use geometry::MaybeReach;
 use geometry::Plunge;
-use geometry::Reach;
 use listing_pass::Pass;
 use listing_pass::Progress;
-use residue_marks::Places;
 ghost use mathlib.Core.Path.{_≡_};
-ghost use Prim.Native.Nat.{_+_, _-_, _*_, _≤_, _<_};
+ghost use Prim.Native.Nat.{_+_, _*_, _≤_, _<_};
 ghost use lib.ListN.{length};
 ghost use Rattle.theory.specs.Listing.{listing};
 ghost use Rattle.refusal.specs.Refusals.{largestSide, largestErosion};
@@ -17,73 +14,57 @@ ghost use Rattle.fields.specs.Fields.{headBytes, plungeBytes, plungeFields};
 ghost use Rattle.fields.specs.Lengths.{IsLength};
 ghost use Rattle.fields.specs.Writing.{spliced};
 ghost use Rattle.residue_marks.specs.Marks.{markPlaces};
-ghost use Rattle.residue_series.specs.Plunges.{plungeAt};
+ghost use Rattle.climb.specs.Climbs.{plungeOf, foundPlunges, FoundMarks};
 ghost use Rattle.listing_pass.specs.Sent.{Compared, Staged, Sent, Room};
 ghost use Rattle.listing_plunges.specs.Listable.{Listable};
-ghost use Rattle.listing_plunges.specs.Runs.{foundPlunges, FoundMarks, ToSend};
+ghost use Rattle.listing_plunges.specs.Runs.{PlaceOf, ToSend};
 
 // The bytes of a run's fields, at most; and of the fields of a run with few.
 const RUN_BYTES: usize = fields::PLUNGE_BYTES * residue_marks::MARK_PLACES;
 
 const FEW_BYTES: usize = 1792;
 
-// What an array of marks is of: rows of a width, a reach, some places, and a number no lower than any mark.
-struct Found {
-    pub width: usize,
-    pub reach: Reach,
-    pub places: Places,
-    pub deepest: u8,
-}
-
-// The reach of a residue's number, which is one less.
-fn reach_of(number: usize) -> Reach
-    requires { ⌜ (1 ≤ number) × (number ≤ largestErosion) ⌝ }
-    ensures { λ r. ⌜ r .0 ≡ number - 1 ⌝ }
+// The plunge of a run's place: place n is column n % width of row n / width of its region.
+fn plunge_at(found: Found, n: usize, depth: u8) -> Plunge
+    requires { ⌜ PlaceOf found n ⌝ }
+    ensures { λ r. ⌜ (r ≡ plungeOf found n depth) × (r .column < largestSide) × (r .row < largestSide) ⌝ }
 {
-    let found = Reach::of_clearance(Clearance(number as u8));
-    match found {
-        MaybeReach::OfReach(reach) => reach,
-        MaybeReach::NoReach => Reach::MAX,
-    }
-}
-
-// The plunge of a place: place n is column n % width of row n / width.
-fn plunge_at(width: usize, reach: Reach, n: usize, depth: u8) -> Plunge
-    requires { ⌜ (1 ≤ width) × (width ≤ largestSide) × (n < largestSide * width) ⌝ }
-    ensures { λ r. ⌜ (r ≡ plungeAt width (reach .0) n depth) × (r .column < largestSide) × (r .row < largestSide) ⌝ }
-{
-    let x = (n % width) as u16;
-    let y = (n / width) as u16;
+    let region = found.region;
+    let reach = found.reach;
+    let width = region.head.width as u32;
+    let place = n as u32;
+    let column = ((place % width) as u16) + (region.column as u16);
+    let row = ((place / width) as u16) + (region.row as u16);
     Plunge {
-        column: x,
-        row: y,
+        column,
+        row,
         reach,
         depth,
     }
 }
 
-// Writes the fields of a run's plunges from a place on, once their places are noted. Returns the place behind them.
+// Writes the fields of a run's plunges from a place on, once their places are noted in an array. Returns the place behind them.
 fn put_marks(
     found: Found,
     marks: &[u8; residue_marks::MARK_PLACES],
+    noted: &mut [u16; residue_marks::MARK_PLACES],
     out: &mut [u8],
     at: usize,
 ) -> usize
-    requires { ⌜ FoundMarks found (now marks) × (at + plungeBytes * length (foundPlunges found (now marks)) ≤ length (now out)) ⌝ }
+    requires { ⌜ FoundMarks found (now marks) × (at + plungeBytes * length (foundPlunges found (now marks)) ≤ length (now out))
+        × (length (now noted) ≡ markPlaces) ⌝ }
     ensures { λ r. ⌜ (r ≡ at + plungeBytes * length (foundPlunges found (now (marks .entry))))
-        × (now (out .exit) ≡ spliced (now (out .entry)) at (plungeFields (foundPlunges found (now (marks .entry))))) ⌝ }
+        × (now (out .exit) ≡ spliced (now (out .entry)) at (plungeFields (foundPlunges found (now (marks .entry)))))
+        × (length (now (noted .exit)) ≡ markPlaces) ⌝ }
 {
-    let width = found.width;
-    let reach = found.reach;
     let start = found.places.start;
     let number = found.places.number;
-    let mut noted = [0u16; residue_marks::MARK_PLACES];
-    let count = residue_marks::note_marks(marks, number, &mut noted);
+    let count = residue_marks::note_marks(marks, number, noted);
     let mut place = at;
     let mut j = 0;
     while j < count {
         let i = noted[j] as usize;
-        let q = plunge_at(width, reach, start + i, marks[i]);
+        let q = plunge_at(found, start + i, marks[i]);
         fields::put_plunge(out, place, q);
         place += fields::PLUNGE_BYTES;
         j += 1;
@@ -103,15 +84,17 @@ fn field_bytes(found: Found, marks: &[u8; residue_marks::MARK_PLACES]) -> usize
 fn compare_in(
     found: Found,
     marks: &[u8; residue_marks::MARK_PLACES],
+    noted: &mut [u16; residue_marks::MARK_PLACES],
     bytes: &mut [u8],
     file: &[u8],
     at: usize,
 ) -> Progress
     requires { ⌜ FoundMarks found (now marks) × IsLength (at + plungeBytes * markPlaces)
-        × (plungeBytes * length (foundPlunges found (now marks)) ≤ length (now bytes)) ⌝ }
-    ensures { λ r. ⌜ Compared (now (file .entry)) at (plungeFields (foundPlunges found (now (marks .entry)))) r ⌝ }
+        × (plungeBytes * length (foundPlunges found (now marks)) ≤ length (now bytes)) × (length (now noted) ≡ markPlaces) ⌝ }
+    ensures { λ r. ⌜ Compared (now (file .entry)) at (plungeFields (foundPlunges found (now (marks .entry)))) r
+        × (length (now (noted .exit)) ≡ markPlaces) ⌝ }
 {
-    let length = put_marks(found, marks, bytes, 0);
+    let length = put_marks(found, marks, noted, bytes, 0);
     let n = listing_pass::common_run(file, at, &bytes[..length]);
     Progress {
         at: at + n,
@@ -123,34 +106,38 @@ fn compare_in(
 fn compare_marks(
     found: Found,
     marks: &[u8; residue_marks::MARK_PLACES],
+    noted: &mut [u16; residue_marks::MARK_PLACES],
     file: &[u8],
     at: usize,
 ) -> Progress
-    requires { ⌜ FoundMarks found (now marks) × IsLength (at + plungeBytes * markPlaces) ⌝ }
-    ensures { λ r. ⌜ Compared (now (file .entry)) at (plungeFields (foundPlunges found (now (marks .entry)))) r ⌝ }
+    requires { ⌜ FoundMarks found (now marks) × IsLength (at + plungeBytes * markPlaces) × (length (now noted) ≡ markPlaces) ⌝ }
+    ensures { λ r. ⌜ Compared (now (file .entry)) at (plungeFields (foundPlunges found (now (marks .entry)))) r
+        × (length (now (noted .exit)) ≡ markPlaces) ⌝ }
 {
     if field_bytes(found, marks) <= FEW_BYTES {
         let mut few = [0u8; FEW_BYTES];
-        return compare_in(found, marks, &mut few, file, at);
+        return compare_in(found, marks, noted, &mut few, file, at);
     }
     let mut bytes = [0u8; RUN_BYTES];
-    compare_in(found, marks, &mut bytes, file, at)
+    compare_in(found, marks, noted, &mut bytes, file, at)
 }
 
 // Writes the fields of a run's plunges from a place on if an output has room for them. Returns the place behind them.
 fn stage_marks(
     found: Found,
     marks: &[u8; residue_marks::MARK_PLACES],
+    noted: &mut [u16; residue_marks::MARK_PLACES],
     out: &mut [u8],
     at: usize,
 ) -> usize
-    requires { ⌜ FoundMarks found (now marks) × IsLength (at + plungeBytes * markPlaces) ⌝ }
+    requires { ⌜ FoundMarks found (now marks) × IsLength (at + plungeBytes * markPlaces) × (length (now noted) ≡ markPlaces) ⌝ }
     ensures { λ r. ⌜ (r ≡ at + plungeBytes * length (foundPlunges found (now (marks .entry))))
-        × Staged (now (out .entry)) at (plungeFields (foundPlunges found (now (marks .entry)))) (now (out .exit)) ⌝ }
+        × Staged (now (out .entry)) at (plungeFields (foundPlunges found (now (marks .entry)))) (now (out .exit))
+        × (length (now (noted .exit)) ≡ markPlaces) ⌝ }
 {
     let end = at + field_bytes(found, marks);
     if end <= out.len() {
-        return put_marks(found, marks, out, at);
+        return put_marks(found, marks, noted, out, at);
     }
     end
 }
@@ -160,24 +147,26 @@ fn send_run(
     pass: Pass,
     found: Found,
     marks: &[u8; residue_marks::MARK_PLACES],
+    noted: &mut [u16; residue_marks::MARK_PLACES],
     file: &[u8],
     out: &mut [u8],
     at: usize,
 ) -> Progress
-    requires { ⌜ ToSend pass found (now marks) at (now out) ⌝ }
-    ensures { λ r. ⌜ Sent pass (now (file .entry)) at (plungeFields (foundPlunges found (now (marks .entry)))) (now (out .entry)) (now (out .exit)) r ⌝ }
+    requires { ⌜ ToSend pass found (now marks) at (now out) × (length (now noted) ≡ markPlaces) ⌝ }
+    ensures { λ r. ⌜ Sent pass (now (file .entry)) at (plungeFields (foundPlunges found (now (marks .entry)))) (now (out .entry)) (now (out .exit)) r
+        × (length (now (noted .exit)) ≡ markPlaces) ⌝ }
 {
     if found.deepest == 0 {
         return Progress { at, like: true };
     }
     match pass {
         Pass::Write => Progress {
-            at: put_marks(found, marks, out, at),
+            at: put_marks(found, marks, noted, out, at),
             like: true,
         },
-        Pass::Compare => compare_marks(found, marks, file, at),
+        Pass::Compare => compare_marks(found, marks, noted, file, at),
         Pass::Stage => Progress {
-            at: stage_marks(found, marks, out, at),
+            at: stage_marks(found, marks, noted, out, at),
             like: true,
         },
     }
@@ -198,27 +187,19 @@ pub fn send_listing(
     ensures { λ r. ⌜ Sent pass (now (file .entry)) headBytes (plungeFields (listing head largestErosion (now (relief .entry))))
         (now (out .entry)) (now (out .exit)) r × PlateOnly head (now (a .entry)) (now (a .exit)) × PlateOnly head (now (b .entry)) (now (b .exit)) ⌝ }
 {
-    let width = head.width as usize;
     let mut marks = [0u8; residue_marks::MARK_PLACES];
+    let mut noted = [0u16; residue_marks::MARK_PLACES];
     let mut place = fields::HEAD_BYTES;
-    let mut stand = residue_series::start(head, relief, a, b);
-    while stand.more {
-        let run = residue_series::next_run(head, stand, a, b, &mut marks);
-        let reach = reach_of(stand.number);
-        let places = run.places;
-        let found = Found {
-            width,
-            reach,
-            places,
-            deepest: run.deepest,
-        };
-        let sent = send_run(pass, found, &marks, file, out, place);
+    let mut climb = climb::begin(head, relief, a, b);
+    while climb.stand.more {
+        let step = climb::next(climb, a, b, &mut marks);
+        let sent = send_run(pass, step.found, &marks, &mut noted, file, out, place);
         if !sent.like {
             return sent;
         }
         place = sent.at;
-        let next = run.next;
-        stand = next;
+        let next = step.next;
+        climb = next;
     }
     Progress {
         at: place,

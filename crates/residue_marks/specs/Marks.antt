@@ -37,6 +37,14 @@ pub record RunBuffers (w : ℕ) (s : Places) (prev cur marks : List ℕ) : Type 
   pub before : s .start + s .number ≤ length prev
   pub size : length marks ≡ markPlaces
 
+-- places of a map, as many from one on of another with those beside them, and an array for their marks
+pub record EdgeBuffers (s : Places) (beside : ℕ) (prev cur marks : List ℕ) : Type 0 where
+  pub some : 1 ≤ beside
+  pub after : beside + s .number < length cur
+  pub short : s .number < markPlaces
+  pub before : s .start + s .number ≤ length prev
+  pub size : length marks ≡ markPlaces
+
 -- places of two erosions of a plate, and an array for their marks
 pub record SweepBuffers (p : Head) (s : Places) (prev cur marks : List ℕ) : Type 0 where
   pub wide : 1 ≤ p .width
@@ -60,6 +68,13 @@ lowIn kd w m n = windowMin kd (windowIn m w n)
 
 abbrev pub highIn : Kind → ℕ → List ℕ → ℕ → ℕ
 highIn kd w m n = windowMax kd (windowIn m w n)
+
+-- the highest about place n of a row along the border, where a map is 0: of three bytes of the row beside it, which begins at a place
+abbrev pub besideWindow : List ℕ → ℕ → List (List ℕ)
+besideWindow m j = (0 ∷ 0 ∷ 0 ∷ []) ∷ (0 ∷ 0 ∷ 0 ∷ []) ∷ (getD m (j - 1) 0 ∷ getD m j 0 ∷ getD m (j + 1) 0 ∷ []) ∷ []
+
+abbrev pub highBeside : Kind → ℕ → ℕ → List ℕ → ℕ → ℕ
+highBeside kd beside start m n = windowMax kd (besideWindow m (beside + (n - start)))
 
 abbrev pub lowNear : Head → List ℕ → ℕ → ℕ
 lowNear p m n = lowestNear (p .kind) (at p m) (placeCell (p .width) n)

@@ -5,8 +5,8 @@ use geometry::Kind;
 ghost use mathlib.Core.Path.{_≡_};
 ghost use Prim.Native.Nat.{_+_, _≤_};
 ghost use lib.ListN.{length};
-ghost use Rattle.residue_marks.specs.Marks.{markPlaces, block, RunBuffers, SweepBuffers, markOf, counted, lowIn, highIn, lowNear, highNear};
-ghost use Rattle.residue_marks.specs.Marks.{Sweep, CountRun, tally, Unmarked, NotePlaces, Noted};
+ghost use Rattle.residue_marks.specs.Marks.{markPlaces, block, RunBuffers, EdgeBuffers, SweepBuffers, markOf, counted, lowIn, highIn};
+ghost use Rattle.residue_marks.specs.Marks.{lowNear, highNear, highBeside, Sweep, CountRun, tally, Unmarked, NotePlaces, Noted};
 ghost use Rattle.buffers.specs.Margin.{Margin};
 
 // The marks of a run are held in an array of this length.
@@ -72,6 +72,36 @@ fn sweep_run(
     Swept { deepest, top }
 }
 
+// Sweeps places of the first or the last row: the second map is 0 there, so only the row beside it counts, from a place on.
+fn sweep_edge(
+    kind: Kind,
+    places: Places,
+    beside: usize,
+    prev: &mut [u8],
+    cur: &[u8],
+    marks: &mut [u8; MARK_PLACES],
+) -> Swept
+    requires { ⌜ EdgeBuffers places beside (now prev) (now cur) (now marks) ⌝ }
+    ensures { λ r. ⌜ Sweep (λ n. 0) (highBeside kind beside (places .start) (now (cur .entry))) (places .start) (places .number)
+        (now (prev .entry)) (now (prev .exit)) (now (marks .entry)) (now (marks .exit)) (r .deepest) (r .top) ⌝ }
+{
+    let start = places.start;
+    let number = places.number;
+    let mut deepest = 0u8;
+    let mut i = 0;
+    while i < number {
+        let n = start + i;
+        let j = beside + i;
+        let win = [[0, 0, 0], [0, 0, 0], [cur[j - 1], cur[j], cur[j + 1]]];
+        let v = mark(prev[n], window::window_max(kind, win));
+        marks[i] = v;
+        prev[n] = 0;
+        deepest = window::higher(deepest, v);
+        i += 1;
+    }
+    Swept { deepest, top: 0 }
+}
+
 // Sweeps any places, each cell by its own window.
 fn sweep_cells(
     head: Head,
@@ -105,7 +135,8 @@ fn sweep_cells(
     Swept { deepest, top }
 }
 
-// Sweeps places of erosions of which the second is 0 along the border: by the nine bytes about each where these lie in the map.
+// Sweeps places of erosions of which the second is 0 along the border: by the row beside them where they lie in the first or the last row,
+// by the nine bytes about each where these lie in the map.
 pub fn sweep_places(
     head: Head,
     places: Places,
@@ -120,10 +151,21 @@ pub fn sweep_places(
     let kind = head.kind;
     let width = head.width as usize;
     let cells = (head.height as usize) * width;
-    if places.start <= width {
+    let start = places.start;
+    let end = start + places.number;
+    if cells < 3 * width {
         return sweep_cells(head, places, prev, cur, marks);
     }
-    if cells < places.start + places.number + width + 1 {
+    if end <= width {
+        return sweep_edge(kind, places, start + width, prev, cur, marks);
+    }
+    if cells <= start + width {
+        return sweep_edge(kind, places, start - width, prev, cur, marks);
+    }
+    if start <= width {
+        return sweep_cells(head, places, prev, cur, marks);
+    }
+    if cells < end + width + 1 {
         return sweep_cells(head, places, prev, cur, marks);
     }
     sweep_run(kind, width, places, prev, cur, marks)

@@ -28,46 +28,46 @@ use Rattle.theory.proofs.Erosion.{erosion-is, erosion-off}
 use Rattle.theory.proofs.Listing.{listing-stops}
 use Rattle.theory.proofs.Lists.{gather-same}
 use Rattle.residue_marks.specs.Marks.{markOf, counted, tally}
-use Rattle.residue_series.specs.Plunges.{listedReach, placeListed, soFar, plungeAt, onMark, marksTo}
+use Rattle.residue_series.specs.Plunges.{listedReach, placeListed, soFar, onMark, marksTo}
 use Rattle.residue_series.proofs.Gather.{gather-on, gather-turn, gather-none, gather-stops, gather-flat}
 
 -- ---- marks
 
 -- a mark stands for the plunge of a residue above 0
-pub mark-listed : (w r n a b : ℕ) → onMark w r n (markOf a b) ≡ cond (ltb 0 (a - b)) (plungeAt w r n a ∷ []) []
-mark-listed w r n a b = go (ltb b a) refl
+pub mark-listed : (f : ℕ → ℕ → Plunge) (n a b : ℕ) → onMark f n (markOf a b) ≡ cond (ltb 0 (a - b)) (f n a ∷ []) []
+mark-listed f n a b = go (ltb b a) refl
   where
-    go : (t : Bool) → ltb b a ≡ t → onMark w r n (markOf a b) ≡ cond (ltb 0 (a - b)) (plungeAt w r n a ∷ []) []
+    go : (t : Bool) → ltb b a ≡ t → onMark f n (markOf a b) ≡ cond (ltb 0 (a - b)) (f n a ∷ []) []
     go true e =
         let g : 0 < a - b = omega (arith, ltb-true b a e) in
         let d : a ≡ 0 → ⊥ = λ z. omega (arith, ltb-true b a e) in
         rw (e, lt-ltb _ _ g, ne-eqb _ _ d)
     go false e = let g : a - b ≤ 0 = omega (arith, ltb-false b a e) in rw (e, le-ltb _ _ g)
 
-mark-length : (w r n mark : ℕ) → length (onMark w r n mark) ≡ counted mark
-mark-length w r n mark = go (eqb mark 0)
+mark-length : (f : ℕ → ℕ → Plunge) (n mark : ℕ) → length (onMark f n mark) ≡ counted mark
+mark-length f n mark = go (eqb mark 0)
   where
-    go : (t : Bool) → length (cond t [] (plungeAt w r n mark ∷ [])) ≡ cond t 0 1
+    go : (t : Bool) → length (cond t [] (f n mark ∷ [])) ≡ cond t 0 1
     go true = refl
     go false = refl
 
 -- how many plunges the marks of an array stand for
-pub tally-length : (w r start : ℕ) (marks : List ℕ) (n : ℕ) → length (marksTo n w r start marks) ≡ tally marks n
-tally-length w r start marks zero = refl
-tally-length w r start marks (suc n) =
-    ap (λ (k : ℕ). length (marksTo k w r start marks)) (sym (add-one n))
-    ∙ ap length (gather-turn (λ i. onMark w r (start + i) (getD marks i 0)) n)
+pub tally-length : (f : ℕ → ℕ → Plunge) (start : ℕ) (marks : List ℕ) (n : ℕ) → length (marksTo n f start marks) ≡ tally marks n
+tally-length f start marks zero = refl
+tally-length f start marks (suc n) =
+    ap (λ (k : ℕ). length (marksTo k f start marks)) (sym (add-one n))
+    ∙ ap length (gather-turn (λ i. onMark f (start + i) (getD marks i 0)) n)
     ∙ omega (
       arith,
-      length-append (marksTo n w r start marks) (onMark w r (start + n) (getD marks n 0)),
-      tally-length w r start marks n,
-      mark-length w r (start + n) (getD marks n 0),
+      length-append (marksTo n f start marks) (onMark f (start + n) (getD marks n 0)),
+      tally-length f start marks n,
+      mark-length f (start + n) (getD marks n 0),
     )
 
 -- marks that are all 0 stand for nothing
-pub unmarked-none : (w r start n : ℕ) (marks : List ℕ) → ((i : ℕ) → i < n → getD marks i 0 ≡ 0) → marksTo n w r start marks ≡ []
-unmarked-none w r start n marks z =
-    gather-none (λ i. onMark w r (start + i) (getD marks i 0)) n 0 (λ i a b. let e = z i (omega arith) in rw (eq-eqb _ _ e))
+pub unmarked-none : (f : ℕ → ℕ → Plunge) (start n : ℕ) (marks : List ℕ) → ((i : ℕ) → i < n → getD marks i 0 ≡ 0) → marksTo n f start marks ≡ []
+unmarked-none f start n marks z =
+    gather-none (λ i. onMark f (start + i) (getD marks i 0)) n 0 (λ i a b. let e = z i (omega arith) in rw (eq-eqb _ _ e))
 
 -- ---- rows where an erosion is 0
 

@@ -1,8 +1,8 @@
 -- Laws of where a series stands: one run more, from one residue to the next, the end, and what the marks of a run stand for.
 use mathlib.Core.Path.{_≡_, refl, sym, ap, ap₂, _∙_, subst, fun-ext}
 use mathlib.Core.Logic.{_⊎_, inl, inr}
-use mathlib.Core.Bool.{true, false}
-use mathlib.Core.List.{List, [], _∷_, _++_}
+use mathlib.Core.Bool.{Bool, true, false, true≢false}
+use mathlib.Core.List.{List, [], _∷_, _++_, append-assoc, append-nil}
 use Prim.Native.Nat.{ℕ, zero, suc, _+_, _*_, _-_, _%_, _/_, _≤_, _<_, max}
 use native.Mathlib.Omega.{arith}
 use native.Mathlib.Decide.{decLe}
@@ -13,6 +13,7 @@ use lib.Dec.{ltb}
 use mathlib.Core.Bool.{cond}
 use lib.ListN.{length, getD}
 use Rattle.geometry.specs.declared.Head.{Head}
+use Rattle.geometry.specs.declared.Plunge.{Plunge}
 use Rattle.geometry.specs.Lists.{gather}
 use Rattle.geometry.specs.Plane.{Cell, cell}
 use Rattle.geometry.specs.Plate.{On, area, at}
@@ -21,22 +22,24 @@ use Rattle.theory.specs.Near.{lowestNear}
 use Rattle.theory.specs.Listing.{listing}
 use Rattle.theory.proofs.Plate.{on-or-off, at-cell}
 use Rattle.theory.proofs.Lists.{gather-same}
-use Rattle.theory.proofs.Erosion.{erosion-step, erosion-off}
-use Rattle.refusal.specs.Refusals.{largestErosion}
+use Rattle.theory.proofs.Erosion.{erosion-zero, erosion-step, erosion-off}
+use Rattle.refusal.specs.Refusals.{largestSide, largestErosion}
 use Rattle.buffers.specs.Fill.{Filled, PlateOnly}
 use Rattle.buffers.specs.Margin.{Margin}
 use Rattle.refusal.specs.Sides.{Sides}
 use Rattle.erosion_step.specs.Steps.{Stepped}
 use Rattle.erosion_series.specs.Pairs.{HoldsErosion}
-use Rattle.erosion_series.proofs.Pairs.{mod-cases, held-margin, held-start, held-next, kept-none, kept-copy}
+use Rattle.erosion_series.proofs.Pairs.{mod-cases, held-margin, held-next, kept-none}
 use Rattle.residue_marks.specs.declared.Places.{Places}
 use Rattle.residue_marks.specs.declared.Swept.{Swept}
 use Rattle.residue_marks.specs.Marks.{markPlaces, placeCell, lowNear, highNear, markOf, marksOf, SweepBuffers, Sweep}
 use Rattle.residue_series.specs.declared.Stand.{Stand}
-use Rattle.residue_series.specs.Plunges.{placeListed, soFar, plungeAt, onMark, marksTo}
-use Rattle.residue_series.specs.Stands.{Midway, PairMidway, Level, Standing, PairToSweep, PairSweep, Advanced, Started, RunEnd, Taken, TakenOf}
-use Rattle.residue_series.proofs.Gather.{gather-from}
-use Rattle.residue_series.proofs.Plunges.{mark-listed, unmarked-none, erosion-north, erosion-south, erosion-gone, row-above, row-beneath, so-far-more, so-far-level, so-far-next, reaches-end}
+use Rattle.residue_series.specs.Plunges.{listedReach, placeListed, soFar, plungeAt, onMark, marksTo}
+use Rattle.residue_series.specs.Stands.{Midway, PairMidway, Level, Standing, listedTo, PairToSweep, PairSweep}
+use Rattle.residue_series.specs.Stands.{LastResidue, Advanced, Startable, Started, RunEnd, Taken, TakenOf}
+use Rattle.residue_series.proofs.Gather.{gather-from, gather-parts, gather-turn}
+use Rattle.residue_series.proofs.Plunges.{mark-listed, unmarked-none, reach-places, erosion-north, erosion-south, erosion-gone}
+use Rattle.residue_series.proofs.Plunges.{row-above, row-beneath, so-far-more, so-far-level, so-far-next, reaches-end}
 
 -- ---- one run
 
@@ -90,10 +93,10 @@ module _ (p : Head) (m : List ℕ) (k here n top : ℕ) (prev cur : List ℕ) (m
 
     module _ (wide : 1 ≤ w) (some : 1 ≤ k) (within : n + number ≤ area p) where
       -- the mark of a place is its plunge
-      place-mark : (i : ℕ) → i < number → onMark w (k - 1) (n + i) (marksOf (highNear p cur) n prev i) ≡ placeListed p m (k - 1) (n + i)
+      place-mark : (i : ℕ) → i < number → onMark (plungeAt w (k - 1)) (n + i) (marksOf (highNear p cur) n prev i) ≡ placeListed p m (k - 1) (n + i)
       unfolding residue
       place-mark i h =
-          mark-listed w (k - 1) (n + i) (getD prev (n + i) 0) (highNear p cur (n + i))
+          mark-listed (plungeAt w (k - 1)) (n + i) (getD prev (n + i) 0) (highNear p cur (n + i))
           ∙ ap₂ (λ (v d : ℕ). cond (ltb 0 v) (plungeAt w (k - 1) (n + i) d ∷ []) []) (ap₂ (λ (u v : ℕ). u - v) depth high) depth
         where
           split : (n + i) / w * w + (n + i) % w ≡ n + i
@@ -112,14 +115,14 @@ module _ (p : Head) (m : List ℕ) (k here n top : ℕ) (prev cur : List ℕ) (m
               ∙ ap (λ (j : ℕ). highestNear (p .kind) (erosion p m j) (placeCell w (n + i))) next
 
       -- the marks of a run are its plunges, and none where no mark is above 0
-      pub midway-marked : marksTo number w (k - 1) n marks′ ≡ gather number n (placeListed p m (k - 1))
+      pub midway-marked : marksTo number (plungeAt w (k - 1)) n marks′ ≡ gather number n (placeListed p m (k - 1))
       midway-marked =
           gather-same number 0 _ _
-          (λ i a b. ap (onMark w (k - 1) (n + i)) (s .marked .inside i a (omega arith)) ∙ place-mark i (omega arith))
+          (λ i a b. ap (onMark (plungeAt w (k - 1)) (n + i)) (s .marked .inside i a (omega arith)) ∙ place-mark i (omega arith))
           ∙ sym (gather-from (placeListed p m (k - 1)) number n)
 
       pub midway-none : deepest ≡ 0 → gather number n (placeListed p m (k - 1)) ≡ []
-      midway-none z = sym midway-marked ∙ unmarked-none w (k - 1) n number marks′ (λ i h. omega (arith, s .deep i h))
+      midway-none z = sym midway-marked ∙ unmarked-none (plungeAt w (k - 1)) n number marks′ (λ i h. omega (arith, s .deep i h))
 
   -- after the last rows that a residue can mark, its turn is over: the buffers stand for the next
   module _ (some : 1 ≤ k) (last : area p ≤ n + (k - 1) * w) where
@@ -189,12 +192,12 @@ module _ (p : Head) (m : List ℕ) (k here n top : ℕ) (a b : List ℕ) (q : Pa
         }
 
     pub pair-marked : 1 ≤ p .width → 1 ≤ k → n + s .number ≤ area p
-        → (marksTo (s .number) (p .width) (k - 1) n marks′ ≡ gather (s .number) n (placeListed p m (k - 1)))
+        → (marksTo (s .number) (plungeAt (p .width) (k - 1)) n marks′ ≡ gather (s .number) n (placeListed p m (k - 1)))
         × (r .deepest ≡ 0 → gather (s .number) n (placeListed p m (k - 1)) ≡ [])
     pair-marked wide some within = go (mod-cases k)
       where
         go : (k % 2 ≡ 0) ⊎ (k % 2 ≡ 1)
-            → (marksTo (s .number) (p .width) (k - 1) n marks′ ≡ gather (s .number) n (placeListed p m (k - 1)))
+            → (marksTo (s .number) (plungeAt (p .width) (k - 1)) n marks′ ≡ gather (s .number) n (placeListed p m (k - 1)))
             × (r .deepest ≡ 0 → gather (s .number) n (placeListed p m (k - 1)) ≡ [])
         go (inl f) =
             let t = subst (λ (j : ℕ). Sweep (lowNear p a) (highNear p a) j (s .number) b b′ marks marks′ (r .deepest) (r .top)) at-place (e .even f .1) in (
@@ -251,25 +254,69 @@ width-more : (p : Head) (k : ℕ) → 1 ≤ k → k * p .width ≡ p .width + (k
 width-more p zero g = absurd (omega arith)
 width-more p (suc k) g = let e : suc k - 1 ≡ k = omega arith in omega (arith, suc-mul k (p .width), ap (λ (j : ℕ). j * p .width) e)
 
-left-falls : (area k n first : ℕ) → k < largestErosion → n ≤ area
-    → (largestErosion + 1 - (k + 1)) * (area + 1) - first ≤ (largestErosion + 1 - k) * (area + 1) - n
-left-falls area k n first l h =
-    let e : largestErosion + 1 - k ≡ suc (largestErosion + 1 - (k + 1)) = omega arith in
-    omega (arith, ap (λ (j : ℕ). j * (area + 1)) e, suc-mul (largestErosion + 1 - (k + 1)) (area + 1))
+left-falls : (places limit k behind : ℕ) → k < limit → behind ≤ places
+    → (limit + 1 - (k + 1)) * (places + 1) ≤ (limit + 1 - k) * (places + 1) - behind
+left-falls places limit k behind l h =
+    let e : limit + 1 - k ≡ suc (limit + 1 - (k + 1)) = omega arith in
+    omega (arith, ap (λ (j : ℕ). j * (places + 1)) e, suc-mul (limit + 1 - (k + 1)) (places + 1))
 
-module _ (p : Head) (k here n : ℕ) (from : ℕ) (level : Level p k from) (top : ℕ) where
+-- a plate of which k rows at each end are all has no more than 2 * k
+rows-gone : (w h k : ℕ) → 1 ≤ w → h * w ≤ k * w + k * w → h ≤ k + k
+rows-gone w h k a l = go (decLe h (k + k))
+  where
+    go : Dec (h ≤ k + k) → h ≤ k + k
+    go (yes g) = g
+    go (no g) = let o : suc (k + k) ≤ h = omega arith in absurd (omega (arith, mul-le-mul-right w o, suc-mul (k + k) w, native.Mathlib.Nat.add-mul k k w))
+
+-- a residue is the last by its number, or because its erosion is 0: nowhere above 0, or with no row left that could be
+module _ (p : Head) (s : Stand) where
+  pub last-number : s .number ≡ s .limit → LastResidue p s true
+  last-number e = record { ends = λ t m n top a b q. inl e; goes-on = λ t. absurd (true≢false t) }
+
+  pub last-bare : s .here ≡ 0 → LastResidue p s true
+  last-bare z = record { ends = λ t m n top a b q. inr (pair-zero p m (s .number) (s .here) n top a b q z); goes-on = λ t. absurd (true≢false t) }
+
+  module _ (level : Level p (s .limit) (s .number) (s .place)) where
+    pub last-rows : area p ≤ s .number * p .width + s .number * p .width → LastResidue p s true
+    last-rows h =
+        record {
+          ends = λ t m n top a b q. inr (erosion-gone p m (s .number) (rows-gone (p .width) (p .height) (s .number) (level .sides .wide) h));
+          goes-on = λ t. absurd (true≢false t);
+        }
+
+    pub not-last : (s .number ≡ s .limit → ⊥) → s .number * p .width + s .number * p .width < area p → LastResidue p s false
+    not-last e h = record { ends = λ t. absurd (true≢false (sym t)); goes-on = λ t. (let l = level .last in omega (arith, e), h) }
+
+-- the products of a place's level are small
+pub level-small : (p : Head) (limit k n : ℕ) → Level p limit k n
+    → (area p ≤ largestSide * largestSide) × (k * p .width ≤ largestErosion * largestSide)
+level-small p limit k n l =
+    let g = l .last in
+    let h = l .high in
+    let m : k ≤ largestErosion = omega arith in
+    (mul-le-mul (l .sides .low) (l .sides .narrow), mul-le-mul m (l .sides .narrow))
+
+module _ (p : Head) (limit k here n : ℕ) (from : ℕ) (level : Level p limit k from) (on : from ≤ n) (top : ℕ) where
   -- at the same residue
   pub stays : n + k * p .width < area p + p .width → (m a b : List ℕ) → PairMidway p m k here n top a b
-      → Advanced p m k n a b (record { number = k; here = here; place = n; top = top; more = true })
+      → Advanced p m limit k n a b (record { limit = limit; number = k; here = here; place = n; top = top; more = true })
   stays h m a b q =
       let e = width-more p k (level .some) in
       record {
         stands = λ t. record {
-          level = record { sides = level .sides; some = level .some; last = level .last; place = omega arith };
+          level = record {
+            sides = level .sides;
+            high = level .high;
+            some = level .some;
+            last = level .last;
+            first = let f = level .first in omega arith;
+            place = omega arith;
+          };
           pair = q;
         };
         listed = λ l. refl;
-        less = λ l. omega arith;
+        same = refl;
+        less = λ places g l. omega arith;
       }
 
   module _ (h : area p + p .width ≤ n + k * p .width) where
@@ -277,59 +324,68 @@ module _ (p : Head) (k here n : ℕ) (from : ℕ) (level : Level p k from) (top 
     over = let e = width-more p k (level .some) in omega arith
 
     -- at its end
-    pub ends : (m a b : List ℕ) → (k ≡ largestErosion) ⊎ ((c : Cell) → erosion p m k c ≡ 0)
-        → Advanced p m k n a b (record { number = k; here = here; place = n; top = top; more = false })
+    pub ends : (m a b : List ℕ) → (k ≡ limit) ⊎ ((c : Cell) → erosion p m k c ≡ 0)
+        → Advanced p m limit k n a b (record { limit = limit; number = k; here = here; place = n; top = top; more = false })
     ends m a b o =
         record {
           stands = λ t. let z : _≡_ {A = ℕ} 0 1 = cc in absurd (omega arith);
-          listed = λ l. reaches-end p m k largestErosion (level .last) o
+          listed = λ l. reaches-end p m k limit (level .last) o
               ∙ sym (so-far-level p m (level .sides .wide) k n (level .some) (omega arith) over);
-          less = λ l. omega arith;
+          same = refl;
+          less = λ places g l. omega arith;
         }
 
     -- at the next residue
-    pub goes-on : k < largestErosion → k * p .width + k * p .width < area p → (m a b : List ℕ) → PairMidway p m k here n top a b
-        → Advanced p m k n a b (record { number = k + 1; here = top; place = k * p .width; top = 0; more = true })
+    pub goes-on : k < limit → k * p .width + k * p .width < area p → (m a b : List ℕ) → PairMidway p m k here n top a b
+        → Advanced p m limit k n a b (record { limit = limit; number = k + 1; here = top; place = k * p .width; top = 0; more = true })
     goes-on l g m a b q =
         let e : k + 1 - 1 ≡ k = omega arith in
         let f = ap (λ (j : ℕ). j * p .width) e in
         record {
           stands = λ t. record {
-            level = record { sides = level .sides; some = omega arith; last = omega arith; place = omega (arith, f) };
+            level = record {
+              sides = level .sides;
+              high = level .high;
+              some = omega arith;
+              last = omega arith;
+              first = omega (arith, f);
+              place = omega (arith, f);
+            };
             pair = pair-next p m k here n top a b q (level .some) over;
           };
           listed = λ i. so-far-next p m (level .sides .wide) k (omega arith)
               ∙ sym (so-far-level p m (level .sides .wide) k n (level .some) (omega arith) over);
-          less = λ i. left-falls (area p) k n (k * p .width) l i;
+          same = refl;
+          less = λ places j i. omega (arith, f, left-falls places limit k (n - (k - 1) * p .width) l (omega arith));
         }
 
 -- ---- a series before its first run
 
-pub started : (p : Head) (m a a′ b b′ : List ℕ) (v : ℕ) → Sides p → area p ≤ length m → area p ≤ length a → area p ≤ length b
-    → Filled (λ n. getD m n 0) 0 (area p) a a′ → Stepped p a′ b b′ v
-    → Started p m a a′ b b′ (record { number = 1; here = v; place = 0; top = 0; more = true })
-started p m a a′ b b′ v sides h l g f e =
+pub started : (p : Head) (limit : ℕ) (m b b′ : List ℕ) (v : ℕ) → Startable p limit m b → Stepped p m b b′ v
+    → Started p limit m b b′ (record { limit = limit; number = 1; here = v; place = 0; top = 0; more = true })
+started p limit m b b′ v s e =
     record {
-      more = refl;
+      first = (refl, refl, refl, refl);
       stands = record {
         level = record {
-          sides = sides;
+          sides = s .sides;
+          high = s .high;
           some = omega arith;
-          last = omega arith;
-          place = omega (arith, zero-mul (p .width), mul-le-mul (sides .tall) (sides .wide));
+          last = s .some;
+          first = omega (arith, zero-mul (p .width));
+          place = omega (arith, zero-mul (p .width), mul-le-mul (s .sides .tall) (s .sides .wide));
         };
         pair = record { even = λ z. absurd (omega arith); odd = λ z. first };
       };
       listed = refl;
-      first = kept-copy p _ a a′ f;
-      second = record { same = e .map .same; surplus = e .map .surplus };
+      kept = record { same = e .map .same; surplus = e .map .surplus };
     }
   where
-    copied : HoldsErosion p m 0 a′
-    copied = held-start p m a a′ h l f
+    relief : HoldsErosion p m 0 m
+    relief = record { long = s .relief; holds = λ c. sym (erosion-zero p m c) }
 
     eroded : HoldsErosion p m 1 b′
-    eroded = held-next p m 0 a′ copied b b′ v e g
+    eroded = held-next p m 0 m relief b b′ v e (s .room)
 
     low : (c : Cell) → On p c ⊎ ((n : List ℕ) → at p n c ≡ 0) → erosion p m 1 c ≤ v
     low c (inl o) =
@@ -342,44 +398,36 @@ started p m a a′ b b′ v sides h l g f e =
         ))
     low c (inr z) = omega (arith, erosion-off p m 1 c z)
 
-    first : Midway p m 1 v 0 0 a′ b′
+    first : Midway p m 1 v 0 0 m b′
     first =
         record {
           held = eroded;
           low = λ c. low c (on-or-off p c);
-          long = omega (arith, f .same);
-          ahead = λ x y s t i. absurd (omega arith);
-          behind = λ x y s t i. sym (at-cell p a′ x y s t) ∙ copied .holds (cell x y);
-          under = λ x y s t i. absurd (omega arith);
+          long = s .relief;
+          ahead = λ x y a b i. absurd (omega arith);
+          behind = λ x y a b i. sym (at-cell p m x y a b) ∙ relief .holds (cell x y);
+          under = λ x y a b i. absurd (omega arith);
         }
-
--- a plate of which k rows at each end are all has no more than 2 * k
-pub rows-gone : (w h k : ℕ) → 1 ≤ w → h * w ≤ k * w + k * w → h ≤ k + k
-rows-gone w h k a l = go (decLe h (k + k))
-  where
-    go : Dec (h ≤ k + k) → h ≤ k + k
-    go (yes g) = g
-    go (no g) = let o : suc (k + k) ≤ h = omega arith in absurd (omega (arith, mul-le-mul-right w o, suc-mul (k + k) w, native.Mathlib.Nat.add-mul k k w))
 
 -- ---- one run, from what its parts leave
 
-left-less : (area k n end : ℕ) → k ≤ largestErosion → n < end → end ≤ area
-    → (largestErosion + 1 - k) * (area + 1) - end < (largestErosion + 1 - k) * (area + 1) - n
-left-less area k n end l a b =
-    let e : largestErosion + 1 - k ≡ suc (largestErosion - k) = omega arith in
-    omega (arith, ap (λ (j : ℕ). j * (area + 1)) e, suc-mul (largestErosion - k) (area + 1))
+left-less : (places limit k n end first : ℕ) → k ≤ limit → first ≤ n → n < end → end ≤ places
+    → (limit + 1 - k) * (places + 1) - (end - first) < (limit + 1 - k) * (places + 1) - (n - first)
+left-less places limit k n end first l f a b =
+    let e : limit + 1 - k ≡ suc (limit - k) = omega arith in
+    omega (arith, ap (λ (j : ℕ). j * (places + 1)) e, suc-mul (limit - k) (places + 1))
 
 module _ (p : Head) (s : Stand) (a a′ b b′ marks marks′ : List ℕ) (end : ℕ) (w : Swept) (top : ℕ) (next : Stand)
-    (level : Level p (s .number) (s .place)) (run : RunEnd p (s .number) (s .place) end)
+    (level : Level p (s .limit) (s .number) (s .place)) (run : RunEnd p (s .number) (s .place) end)
     (swept : PairSweep p (s .number) (record { start = s .place; number = end - s .place }) a a′ b b′ marks marks′ w) (is : top ≡ max (s .top) (w .top))
-    (advanced : (m a b : List ℕ) → PairMidway p m (s .number) (s .here) end top a b → Advanced p m (s .number) end a b next) where
+    (advanced : (m a b : List ℕ) → PairMidway p m (s .number) (s .here) end top a b → Advanced p m (s .limit) (s .number) end a b next) where
   at-end : s .place + (end - s .place) ≡ end
   at-end = let l = run .some in omega arith
 
   within : s .place + (end - s .place) ≤ area p
   within = let l = run .some in let g = run .within in omega arith
 
-  on : (m : List ℕ) → Standing p m s a b → Advanced p m (s .number) end a′ b′ next
+  on : (m : List ℕ) → Standing p m s a b → Advanced p m (s .limit) (s .number) end a′ b′ next
   on m t =
       advanced m a′ b′
       (subst (λ (n : ℕ). PairMidway p m (s .number) (s .here) n top a′ b′) at-end
@@ -416,6 +464,50 @@ module _ (p : Head) (s : Stand) (a a′ b b′ marks marks′ : List ℕ) (end :
         size = kept ∙ size;
         within = within;
         short = omega arith;
-        less = omega (arith, on m t .less (omega arith), left-less (area p) (s .number) (s .place) end (level .last) (run .some) (omega arith));
+        same = on m t .same;
+        less = λ places g.
+            omega (
+              arith,
+              on m t .less places g (omega arith),
+              left-less places (s .limit) (s .number) (s .place) end ((s .number - 1) * p .width) (level .last) (level .first) (run .some) (omega arith),
+            );
         step = of;
       }
+
+-- ---- what is left of the listing
+
+-- the listing so far is the beginning of the listing
+so-far-rest : (p : Head) (m : List ℕ) (limit k n : ℕ) → 1 ≤ p .width → 1 ≤ k → k ≤ limit → n ≤ area p
+    → listing p limit m ≡ soFar p m k n ++ (gather (area p - n) n (placeListed p m (k - 1)) ++ gather (limit - k) k (listedReach p m))
+unfolding listing
+so-far-rest p m limit k n wide some last within =
+    gather-parts (listedReach p m) k limit last
+    ∙ ap (λ l. l ++ gather (limit - k) k (listedReach p m))
+    (ap (λ (j : ℕ). gather j 0 (listedReach p m)) back ∙ gather-turn (listedReach p m) (k - 1)
+    ∙ ap (λ l. gather (k - 1) 0 (listedReach p m) ++ l) (reach-places p m wide (k - 1) ∙ gather-parts (placeListed p m (k - 1)) n (area p) within)
+    ∙ sym (append-assoc (gather (k - 1) 0 (listedReach p m)) (gather n 0 (placeListed p m (k - 1))) (gather (area p - n) n (placeListed p m (k - 1)))))
+    ∙ append-assoc (soFar p m k n) (gather (area p - n) n (placeListed p m (k - 1))) (gather (limit - k) k (listedReach p m))
+  where
+    back : k ≡ k - 1 + 1
+    back = omega arith
+
+-- what is listed after where a series stands
+pub standing-rest : (p : Head) (m : List ℕ) (s : Stand) → (s .more ≡ true → Level p (s .limit) (s .number) (s .place))
+    → (cs : List Plunge) × (listing p (s .limit) m ≡ listedTo p m s ++ cs)
+standing-rest p m s level = go (s .more) refl
+  where
+    go : (t : Bool) → s .more ≡ t → (cs : List Plunge) × (listing p (s .limit) m ≡ listedTo p m s ++ cs)
+    go true e =
+        let l = level e in
+        let g = l .place in (
+          gather (area p - s .place) (s .place) (placeListed p m (s .number - 1)) ++ gather (s .limit - s .number) (s .number) (listedReach p m),
+          so-far-rest p m (s .limit) (s .number) (s .place) (l .sides .wide) (l .some) (l .last) (omega arith)
+              ∙ ap (λ (t : Bool). cond t (soFar p m (s .number) (s .place)) (listing p (s .limit) m)
+              ++ (gather (area p - s .place) (s .place) (placeListed p m (s .number - 1)) ++ gather (s .limit - s .number) (s .number) (listedReach p m)))
+              (sym e),
+        )
+    go false e = (
+      [],
+      sym (append-nil (listing p (s .limit) m))
+          ∙ ap (λ (t : Bool). cond t (soFar p m (s .number) (s .place)) (listing p (s .limit) m) ++ []) (sym e),
+    )

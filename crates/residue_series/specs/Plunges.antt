@@ -25,10 +25,10 @@ soFar p m k n = gather (k - 1) 0 (listedReach p m) ++ gather n 0 (placeListed p 
 abbrev pub plungeAt : ℕ → ℕ → ℕ → ℕ → Plunge
 plungeAt w r n d = record { column = n % w; row = n / w; reach = record { 0 = r }; depth = d }
 
--- the plunge that a mark stands for: none for 0, else the mark is its depth
-abbrev pub onMark : ℕ → ℕ → ℕ → ℕ → List Plunge
-onMark w r n mark = cond (eqb mark 0) [] (plungeAt w r n mark ∷ [])
+-- the plunge f that a mark at place n stands for: none for 0, else the mark is its depth
+abbrev pub onMark : (ℕ → ℕ → Plunge) → ℕ → ℕ → List Plunge
+onMark f n mark = cond (eqb mark 0) [] (f n mark ∷ [])
 
 -- those of an array of marks, for places from one on
-abbrev pub marksTo : ℕ → ℕ → ℕ → ℕ → List ℕ → List Plunge
-marksTo n w r start marks = gather n 0 (λ i. onMark w r (start + i) (getD marks i 0))
+abbrev pub marksTo : ℕ → (ℕ → ℕ → Plunge) → ℕ → List ℕ → List Plunge
+marksTo n f start marks = gather n 0 (λ i. onMark f (start + i) (getD marks i 0))

@@ -1,6 +1,7 @@
 -- Serves proofs: where a series of residues stands, what a run asks of its two buffers, and what it leaves in them.
 use mathlib.Core.Path.{_≡_}
-use mathlib.Core.Bool.{true, cond}
+use mathlib.Core.Logic.{_⊎_}
+use mathlib.Core.Bool.{Bool, true, false, cond}
 use mathlib.Core.List.{List, [], _++_}
 use Prim.Native.Nat.{ℕ, _+_, _-_, _*_, _%_, _≤_, _<_}
 use lib.ListN.{length, getD}
@@ -21,7 +22,7 @@ use Rattle.residue_marks.specs.declared.Swept.{Swept}
 use Rattle.residue_marks.specs.Marks.{markPlaces, lowNear, highNear, SweepBuffers, Sweep}
 use Rattle.residue_series.specs.declared.Stand.{Stand}
 use Rattle.residue_series.specs.declared.Run.{Run}
-use Rattle.residue_series.specs.Plunges.{placeListed, soFar, marksTo}
+use Rattle.residue_series.specs.Plunges.{placeListed, soFar, plungeAt, marksTo}
 
 -- the one buffer holds erosion k, no number of which is above `here`; the other holds erosion k + 1 before place n, none above `top`, and
 -- erosion k - 1 from there on
@@ -38,28 +39,30 @@ pub record PairMidway (p : Head) (m : List ℕ) (k here n top : ℕ) (a b : List
   pub even : k % 2 ≡ 0 → Midway p m k here n top b a
   pub odd : k % 2 ≡ 1 → Midway p m k here n top a b
 
--- a place of residue k, before the last k - 1 rows
-pub record Level (p : Head) (k n : ℕ) : Type 0 where
+-- a place of residue k, one of those up to a limit, behind its first k - 1 rows and before its last
+pub record Level (p : Head) (limit k n : ℕ) : Type 0 where
   pub sides : Sides p
+  pub high : limit ≤ largestErosion
   pub some : 1 ≤ k
-  pub last : k ≤ largestErosion
+  pub last : k ≤ limit
+  pub first : (k - 1) * p .width ≤ n
   pub place : n + (k - 1) * p .width < area p
 
 -- a series stands at a place
 pub record Standing (p : Head) (m : List ℕ) (s : Stand) (a b : List ℕ) : Type 0 where
-  pub level : Level p (s .number) (s .place)
+  pub level : Level p (s .limit) (s .number) (s .place)
   pub pair : PairMidway p m (s .number) (s .here) (s .place) (s .top) a b
 
 -- the listing up to where a series stands
 abbrev pub listedTo : Head → List ℕ → Stand → List Plunge
-listedTo p m s = cond (s .more) (soFar p m (s .number) (s .place)) (listing p largestErosion m)
+listedTo p m s = cond (s .more) (soFar p m (s .number) (s .place)) (listing p (s .limit) m)
 
--- falls with every run
-abbrev pub leftAt : Head → ℕ → ℕ → ℕ
-leftAt p k n = (largestErosion + 1 - k) * (area p + 1) - n
+-- falls with every run: the residues that are left, each of which has no more than some places, less those that are behind
+abbrev pub leftAt : ℕ → Head → ℕ → ℕ → ℕ → ℕ
+leftAt places p limit k n = (limit + 1 - k) * (places + 1) - (n - (k - 1) * p .width)
 
-abbrev pub left : Head → Stand → ℕ
-left p s = cond (s .more) (leftAt p (s .number) (s .place)) 0
+abbrev pub left : ℕ → Head → Stand → ℕ
+left places p s = cond (s .more) (leftAt places p (s .limit) (s .number) (s .place)) 0
 
 -- r is the end of a run from place n on
 pub record RunEnd (p : Head) (k n r : ℕ) : Type 0 where
@@ -80,19 +83,33 @@ pub record PairSweep (p : Head) (k : ℕ) (s : Places) (a a′ b b′ marks mark
   pub even : k % 2 ≡ 0 → (a′ ≡ a) × SweepOf p s b b′ a marks marks′ r
   pub odd : k % 2 ≡ 1 → (b′ ≡ b) × SweepOf p s a a′ b marks marks′ r
 
+-- whether the residue where a series stands is its last: no later one is taken, or its erosion is 0 everywhere ("later rungs can give no plunge")
+pub record LastResidue (p : Head) (s : Stand) (r : Bool) : Type 0 where
+  pub ends : r ≡ true → (m : List ℕ) (n top : ℕ) (a b : List ℕ) → PairMidway p m (s .number) (s .here) n top a b
+      → (s .number ≡ s .limit) ⊎ ((c : Cell) → erosion p m (s .number) c ≡ 0)
+  pub goes-on : r ≡ false → (s .number < s .limit) × (s .number * p .width + s .number * p .width < area p)
+
 -- r is where a series stands that has swept residue k up to place n
-pub record Advanced (p : Head) (m : List ℕ) (k n : ℕ) (a b : List ℕ) (r : Stand) : Type 0 where
+pub record Advanced (p : Head) (m : List ℕ) (limit k n : ℕ) (a b : List ℕ) (r : Stand) : Type 0 where
   pub stands : r .more ≡ true → Standing p m r a b
   pub listed : n + (k - 1) * p .width ≤ area p → listedTo p m r ≡ soFar p m k n
-  pub less : n ≤ area p → left p r ≤ leftAt p k n
+  pub same : r .limit ≡ limit
+  pub less : (places : ℕ) → area p ≤ places → n ≤ area p → left places p r ≤ leftAt places p limit k n
+
+-- what a series asks before its first run: a limit, a relief, and a buffer for its first erosion
+pub record Startable (p : Head) (limit : ℕ) (m b : List ℕ) : Type 0 where
+  pub sides : Sides p
+  pub some : 1 ≤ limit
+  pub high : limit ≤ largestErosion
+  pub relief : area p ≤ length m
+  pub room : area p ≤ length b
 
 -- a series before its first run
-pub record Started (p : Head) (m a a′ b b′ : List ℕ) (r : Stand) : Type 0 where
-  pub more : r .more ≡ true
-  pub stands : Standing p m r a′ b′
+pub record Started (p : Head) (limit : ℕ) (m b b′ : List ℕ) (r : Stand) : Type 0 where
+  pub first : (r .limit ≡ limit) × (r .number ≡ 1) × (r .place ≡ 0) × (r .more ≡ true)
+  pub stands : Standing p m r m b′
   pub listed : listedTo p m r ≡ []
-  pub first : PlateOnly p a a′
-  pub second : PlateOnly p b b′
+  pub kept : PlateOnly p b b′
 
 -- a series that stands at a place of some relief, and an array for the marks of the next run
 pub record Underway (p : Head) (s : Stand) (a b marks : List ℕ) : Type 0 where
@@ -107,7 +124,7 @@ runListed p m k s = gather (s .number) (s .start) (placeListed p m (k - 1))
 -- a run of the residues of relief m: its marks are its plunges, and the series stands after them
 pub record TakenOf (p : Head) (m : List ℕ) (s : Stand) (a′ b′ marks′ : List ℕ) (r : Run) : Type 0 where
   pub stands : r .next .more ≡ true → Standing p m (r .next) a′ b′
-  pub marked : marksTo (r .places .number) (p .width) (s .number - 1) (r .places .start) marks′ ≡ runListed p m (s .number) (r .places)
+  pub marked : marksTo (r .places .number) (plungeAt (p .width) (s .number - 1)) (r .places .start) marks′ ≡ runListed p m (s .number) (r .places)
   pub none : r .deepest ≡ 0 → runListed p m (s .number) (r .places) ≡ []
   pub listed : listedTo p m (r .next) ≡ soFar p m (s .number) (s .place) ++ runListed p m (s .number) (r .places)
 
@@ -117,5 +134,6 @@ pub record Taken (p : Head) (s : Stand) (a a′ b b′ marks′ : List ℕ) (r :
   pub size : length marks′ ≡ markPlaces
   pub within : r .places .start + r .places .number ≤ area p
   pub short : r .places .number < markPlaces
-  pub less : left p (r .next) < leftAt p (s .number) (s .place)
+  pub same : r .next .limit ≡ s .limit
+  pub less : (places : ℕ) → area p ≤ places → left places p (r .next) < leftAt places p (s .limit) (s .number) (s .place)
   pub step : (m : List ℕ) → Standing p m s a b → TakenOf p m s a′ b′ marks′ r

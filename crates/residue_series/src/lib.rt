@@ -6,13 +6,13 @@ use residue_marks::Swept;
 ghost use mathlib.Core.List.{List};
 ghost use Prim.Native.Nat.{ℕ, _≤_};
 ghost use Rattle.geometry.specs.Plate.{area};
-ghost use Rattle.refusal.specs.Sides.{Sides};
-ghost use Rattle.erosion_series.specs.Pairs.{SeriesBuffers};
-ghost use Rattle.residue_series.specs.Stands.{PairMidway, Level, RunEnd, PairToSweep, PairSweep, Advanced, Started, Underway, Taken};
+ghost use Rattle.residue_series.specs.Stands.{PairMidway, Level, RunEnd, PairToSweep, PairSweep, LastResidue};
+ghost use Rattle.residue_series.specs.Stands.{Advanced, Startable, Started, Underway, Taken};
 
-// Where a series stands: the erosion whose residue is taken, and a number no lower than any of it; the next place, and a number no lower than
-// any of the next erosion before that place; whether some places are left.
+// Where a series stands: the last residue that it takes; the erosion whose residue is taken, and a number no lower than any of it; the next
+// place, and a number no lower than any of the next erosion before that place; whether some places are left.
 pub struct Stand {
+    pub limit: usize,
     pub number: usize,
     pub here: u8,
     pub place: usize,
@@ -27,15 +27,14 @@ pub struct Run {
     pub next: Stand,
 }
 
-// The series before its first run: a copy of the relief in the first buffer, the first erosion in the second.
-pub fn start(head: Head, relief: &[u8], a: &mut [u8], b: &mut [u8]) -> Stand
-    requires { ⌜ Sides head × SeriesBuffers head (now relief) (now a) (now b) ⌝ }
-    ensures { λ r. ⌜ Started head (now (relief .entry)) (now (a .entry)) (now (a .exit)) (now (b .entry)) (now (b .exit)) r ⌝ }
+// The series before its first run: the relief in the first buffer, its first erosion in the second.
+pub fn start(head: Head, limit: usize, a: &[u8], b: &mut [u8]) -> Stand
+    requires { ⌜ Startable head limit (now a) (now b) ⌝ }
+    ensures { λ r. ⌜ Started head limit (now (a .entry)) (now (b .entry)) (now (b .exit)) r ⌝ }
 {
-    let cells = (head.height as usize) * (head.width as usize);
-    buffers::copy_run(relief, a, cells);
     let here = erosion_step::erode_step(head, 0, a, b);
     Stand {
+        limit,
         number: 1,
         here,
         place: 0,
@@ -44,20 +43,27 @@ pub fn start(head: Head, relief: &[u8], a: &mut [u8], b: &mut [u8]) -> Stand
     }
 }
 
-// Where the run from a place on ends: before the last rows that the residue can mark, and where the bytes about a place begin or end to lie
-// in the map.
-fn run_end(head: Head, number: usize, place: usize) -> usize
-    requires { ⌜ Level head number place ⌝ }
-    ensures { λ r. ⌜ RunEnd head number place r ⌝ }
+// Where the run from where a series stands ends: before the last rows that the residue can mark, after the first row, before the last, and
+// where the bytes about a place begin or end to lie in the map.
+fn run_end(head: Head, at: Stand) -> usize
+    requires { ⌜ Level head (at .limit) (at .number) (at .place) ⌝ }
+    ensures { λ r. ⌜ RunEnd head (at .number) (at .place) r ⌝ }
 {
+    let place = at.place;
     let width = head.width as usize;
     let cells = (head.height as usize) * width;
-    let end = cells - (number - 1) * width;
-    if place <= width {
-        return numbers::smaller(end, width + 1);
+    let end = cells - (at.number - 1) * width;
+    if place < width {
+        return numbers::smaller(end, width);
+    }
+    if cells <= place + width {
+        return end;
+    }
+    if place == width {
+        return place + 1;
     }
     if cells <= place + width + 1 {
-        return end;
+        return place + 1;
     }
     numbers::smaller(
         end,
@@ -84,25 +90,41 @@ fn sweep_pair(
     residue_marks::sweep_places(head, places, a, b, marks)
 }
 
+// Whether no residue after this one is taken or can mark a place: it is the last, or its erosion is 0 everywhere.
+fn is_last(head: Head, at: Stand) -> bool
+    requires { ⌜ Level head (at .limit) (at .number) (at .place) ⌝ }
+    ensures { λ r. ⌜ LastResidue head at r ⌝ }
+{
+    let width = head.width as usize;
+    let cells = (head.height as usize) * width;
+    let first = at.number * width;
+    if at.number == at.limit {
+        return true;
+    }
+    if at.here == 0 {
+        return true;
+    }
+    if cells <= first + first {
+        return true;
+    }
+    false
+}
+
 // Where a series stands that has swept up to a place: there, or at the next residue's first place, or at its end.
 fn advance(head: Head, at: Stand, place: usize, top: u8) -> Stand
-    requires { ⌜ Level head (at .number) (at .place) × (place ≤ area head) ⌝ }
-    ensures { λ r. ⌜ ((m a b : List ℕ) → PairMidway head m (at .number) (at .here) place top a b → Advanced head m (at .number) place a b r) ⌝ }
+    requires { ⌜ Level head (at .limit) (at .number) (at .place) × (at .place ≤ place) × (place ≤ area head) ⌝ }
+    ensures { λ r. ⌜ ((m a b : List ℕ) → PairMidway head m (at .number) (at .here) place top a b
+        → Advanced head m (at .limit) (at .number) place a b r) ⌝ }
 {
+    let limit = at.limit;
     let number = at.number;
     let here = at.here;
     let width = head.width as usize;
     let cells = (head.height as usize) * width;
     let first = number * width;
-    let ended = Stand {
-        number,
-        here,
-        place,
-        top,
-        more: false,
-    };
     if place + first < cells + width {
         return Stand {
+            limit,
             number,
             here,
             place,
@@ -110,16 +132,18 @@ fn advance(head: Head, at: Stand, place: usize, top: u8) -> Stand
             more: true,
         };
     }
-    if number == refusal::LARGEST_EROSION as usize {
-        return ended;
-    }
-    if here == 0 {
-        return ended;
-    }
-    if cells <= first + first {
-        return ended;
+    if is_last(head, at) {
+        return Stand {
+            limit,
+            number,
+            here,
+            place,
+            top,
+            more: false,
+        };
     }
     Stand {
+        limit,
         number: number + 1,
         here: top,
         place: first,
@@ -141,7 +165,7 @@ pub fn next_run(
 {
     let number = at.number;
     let place = at.place;
-    let end = run_end(head, number, place);
+    let end = run_end(head, at);
     let places = Places {
         start: place,
         number: end - place,

@@ -1,6 +1,7 @@
 -- `field_bytes` counts the marks: as many plunges as marks.
 use native.Mathlib.Omega.{arith}
 use Rattle.residue_series.proofs.Plunges.{tally-length}
+use Rattle.climb.specs.Climbs.{plungeOf}
 use Rattle.listing_plunges.proofs.Marks.{marks-few}
 use borrow.Author.Needs.{needs}
 use Rattle.listing_plunges.proofs.field_bytes.Statement.{statement}
@@ -11,23 +12,22 @@ count-marks-requires c κs = search needs
 
 mul-result : tie.Need-mul-result
 mul-result c =
+    let given = c .before .args in
     omega (
       arith,
       c .count-marks .ensures,
-      tally-length (c .before .args .found .width) (c .before .args .found .reach .0)
-          (c .before .args .found .places .start) (c .before .args .marks .now) (c .before .args .found .places .number),
-      marks-few (c .before .args .found .places .number) (c .before .args .found .width)
-          (c .before .args .found .reach .0) (c .before .args .found .places .start) (c .before .args .marks .now),
+      tally-length (plungeOf (given .found)) (given .found .places .start) (given .marks .now) (given .found .places .number),
+      marks-few (given .found .places .number) (plungeOf (given .found)) (given .found .places .start) (given .marks .now),
       c .before .pre .short,
     )
 
 returns : tie.Need-returns
 returns c =
+    let given = c .before .args in
     omega (
       arith,
       c .count-marks .ensures,
-      tally-length (c .before .args .found .width) (c .before .args .found .reach .0)
-          (c .before .args .found .places .start) (c .before .args .marks .now) (c .before .args .found .places .number),
+      tally-length (plungeOf (given .found)) (given .found .places .start) (given .marks .now) (given .found .places .number),
     )
 
 pub field-bytes-spec : {M : Type 1} → statement M

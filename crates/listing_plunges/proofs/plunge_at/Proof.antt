@@ -1,26 +1,84 @@
--- `plunge_at`: a column and a row are below the largest side.
+use Rattle.listing_plunges.proofs.Marks.{place-small, place-few}
 use native.Mathlib.Omega.{arith}
-use Rattle.listing_plunges.proofs.Marks.{place-small}
 use borrow.Author.Needs.{needs}
 use Rattle.listing_plunges.proofs.plunge_at.Statement.{statement}
 use Rattle.listing_plunges.proofs.plunge_at.Tie as tie
+use Rattle.listing_plunges.proofs.plunge_at.Reads as reads
+use Rattle.listing_plunges.proofs.plunge_at.Lts as lts
 
-rem-x : tie.Need-rem-x
-rem-x c = search needs
+-- src/lib.rt:34:17
+cast-width : tie.Need-cast-width
+cast-width c = search needs
 
-cast-x : tie.Need-cast-x
-cast-x c = let s = place-small (c .args .n) (c .args .width) (c .pre .0) (c .pre .1) (c .pre .2) in omega arith
+-- src/lib.rt:35:17
+cast-place : tie.Need-cast-place
+cast-place c =
+    let at-start = c .before .before .before in
+    omega (arith, place-few (at-start .args .found) (at-start .args .n) (at-start .pre))
 
-div-y : tie.Need-div-y
-div-y c = search needs
+-- src/lib.rt:36:20
+rem-column : tie.Need-rem-column
+rem-column c = search needs
 
-cast-y : tie.Need-cast-y
-cast-y c = let s = place-small (c .args .n) (c .args .width) (c .pre .0) (c .pre .1) (c .pre .2) in omega arith
+-- src/lib.rt:36:19
+cast-column : tie.Need-cast-column
+cast-column c =
+    let at-start = c .before .before .before in
+    let s = place-small (at-start .args .found) (at-start .args .n) (at-start .pre) in
+    omega arith
 
+-- src/lib.rt:36:46
+cast-column-2 : tie.Need-cast-column-2
+cast-column-2 c = search needs
+
+-- src/lib.rt:36:18
+add-column : tie.Need-add-column
+add-column c =
+    let at-start = c .before .before .before .before in
+    let s = place-small (at-start .args .found) (at-start .args .n) (at-start .pre) in
+    omega arith
+
+-- src/lib.rt:37:17
+div-row : tie.Need-div-row
+div-row c = search needs
+
+-- src/lib.rt:37:16
+cast-row : tie.Need-cast-row
+cast-row c =
+    let at-start = c .before .before .before .before in
+    let s = place-small (at-start .args .found) (at-start .args .n) (at-start .pre) in
+    omega arith
+
+-- src/lib.rt:37:43
+cast-row-2 : tie.Need-cast-row-2
+cast-row-2 c = search needs
+
+-- src/lib.rt:37:15
+add-row : tie.Need-add-row
+add-row c =
+    let at-start = c .before .before .before .before .before in
+    let s = place-small (at-start .args .found) (at-start .args .n) (at-start .pre) in
+    omega arith
+
+-- src/lib.rt:28:1
 returns : tie.Need-returns
 returns c =
-    let s = place-small (c .args .n) (c .args .width) (c .pre .0) (c .pre .1) (c .pre .2) in
+    let at-start = c .before .before .before .before .before in
+    let s = place-small (at-start .args .found) (at-start .args .n) (at-start .pre) in
     (search needs, s .0, s .1)
 
 pub plunge-at-spec : {M : Type 1} → statement M
-plunge-at-spec = tie.close (tie.spec rem-x cast-x div-y cast-y returns)
+plunge-at-spec =
+    tie.close
+    (tie.spec
+    cast-width
+    cast-place
+    rem-column
+    cast-column
+    cast-column-2
+    add-column
+    div-row
+    cast-row
+    cast-row-2
+    add-row
+    returns)

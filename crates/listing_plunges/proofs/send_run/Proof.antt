@@ -1,67 +1,93 @@
 -- `send_run` by the kind of pass: `run-written`, `run-staged` and `sent-compared` say what each has sent.
 use native.Mathlib.Omega.{arith}
 use Rattle.listing_pass.proofs.Passes.{sent-compared}
-use Rattle.listing_plunges.specs.Runs.{foundPlunges}
+use Rattle.climb.specs.Climbs.{foundPlunges}
 use Rattle.listing_plunges.proofs.Marks.{none-sent, run-written, run-staged}
 use borrow.Author.Needs.{needs}
 use Rattle.listing_plunges.proofs.send_run.Statement.{statement}
 use Rattle.listing_plunges.proofs.send_run.Tie as tie
+use Rattle.listing_plunges.proofs.send_run.Reads as reads
+use Rattle.listing_plunges.proofs.send_run.Lts as lts
+use Rattle.listing_plunges.proofs.compare_marks.Reads as compare-marks-reads
+use Rattle.listing_plunges.proofs.put_marks.Reads as put-marks-reads
+use Rattle.listing_plunges.proofs.stage_marks.Reads as stage-marks-reads
 
+-- src/lib.rt:160:9
 returns : tie.Need-returns
 returns c =
     let at-start = c .before .before .before .before in
-    let given = at-start .args in
-    none-sent (given .pass) (given .file .now) (given .at) (foundPlunges (given .found) (given .marks .now))
-    (given .out .now) (given .out .now) (at-start .pre .marked .none (c .if1 .taken))
+    let given = at-start .args in (
+      none-sent (given .pass) (given .file .now) (given .at) (foundPlunges (given .found) (given .marks .now))
+          (given .out .now) (given .out .now) (at-start .pre .0 .marked .none (c .if1 .taken)),
+      at-start .pre .1,
+    )
 
+-- src/lib.rt:164:41
 enum-told : tie.Need-enum-told
 enum-told c = search needs
 
+-- src/lib.rt:164:17
 put-marks-requires : tie.Need-put-marks-requires
 put-marks-requires c κs =
-    let at-start = c .before .before .before .before .before .before .before in
-    (at-start .pre .marked, at-start .pre .room (c .before .enum-told .given .1))
+    let at-start = c .before .before .before .before .before .before .before .before in
+    (at-start .pre .0 .marked, at-start .pre .0 .room (c .before .before .enum-told .given .1), at-start .pre .1)
 
+-- src/lib.rt:167:54
 enum-told-2 : tie.Need-enum-told-2
 enum-told-2 c = search needs
 
+-- src/lib.rt:167:26
 compare-marks-requires : tie.Need-compare-marks-requires
 compare-marks-requires c κs = search needs
 
+-- src/lib.rt:169:43
 enum-told-3 : tie.Need-enum-told-3
 enum-told-3 c = search needs
 
+-- src/lib.rt:169:17
 stage-marks-requires : tie.Need-stage-marks-requires
 stage-marks-requires c κs = search needs
 
+-- src/lib.rt:146:1
 same-length : tie.Need-same-length
 same-length c = search needs
 
+-- src/lib.rt:146:1
 returns-2 : tie.Need-returns-2
 returns-2 c =
-    let at-enum-told = c .before .before .before .before in
+    let at-enum-told = c .before .before .before .before .before in
     let at-start = at-enum-told .before .before .before .before .before .before in
-    let given = at-start .args in
-    run-written _ _ (given .at) (foundPlunges (given .found) (given .marks .now)) _ _ _
-    (c .before .before .put-marks .ensures .0) (at-enum-told .enum-told .given .1)
-    (c .before .before .put-marks .ensures .1)
+    let given = at-start .args in (
+      run-written _ _ (given .at) (foundPlunges (given .found) (given .marks .now)) _ _ _
+          (c .before .before .put-marks .ensures .0) (at-enum-told .enum-told .given .1)
+          (c .before .before .put-marks .ensures .1),
+      c .before .before .put-marks .ensures .2,
+    )
 
+-- src/lib.rt:146:1
 returns-3 : tie.Need-returns-3
 returns-3 c =
-    let at-start = c .before .before .before .before .before .before .before in
-    sent-compared _ _ _ _ _ (at-start .args .out .now) (c .before .enum-told2 .given .1) _ (c .compare-marks .ensures)
+    let at-start = c .before .before .before .before .before .before .before .before in (
+      sent-compared _ _ _ _ _ (at-start .args .out .now) (c .before .before .enum-told2 .given .1) _
+          (c .compare-marks .ensures .0),
+      c .compare-marks .ensures .1,
+    )
 
+-- src/lib.rt:146:1
 same-length-2 : tie.Need-same-length-2
 same-length-2 c = search needs
 
+-- src/lib.rt:146:1
 returns-4 : tie.Need-returns-4
 returns-4 c =
-    let at-enum-told3 = c .before .before .before .before in
+    let at-enum-told3 = c .before .before .before .before .before in
     let at-start = at-enum-told3 .before .before .before .before .before .before in
-    let given = at-start .args in
-    run-staged _ _ (given .at) (foundPlunges (given .found) (given .marks .now)) _ _ _
-    (c .before .before .stage-marks .ensures .0) (at-enum-told3 .enum-told3 .given .1)
-    (c .before .before .stage-marks .ensures .1)
+    let given = at-start .args in (
+      run-staged _ _ (given .at) (foundPlunges (given .found) (given .marks .now)) _ _ _
+          (c .before .before .stage-marks .ensures .0) (at-enum-told3 .enum-told3 .given .1)
+          (c .before .before .stage-marks .ensures .1),
+      c .before .before .stage-marks .ensures .2,
+    )
 
 pub send-run-spec : {M : Type 1} → statement M
 send-run-spec =

@@ -1,59 +1,140 @@
--- `sweep_places` chooses by where the places lie: inside, the nine bytes about each are its cell's window.
+use Rattle.residue_marks.proofs.Marking.{flat-near, sweep-as, edge-top, edge-bottom}
 use native.Mathlib.Omega.{arith}
-use Rattle.residue_marks.proofs.Marking.{flat-near, sweep-as}
 use borrow.Author.Needs.{needs}
 use Rattle.residue_marks.proofs.sweep_places.Statement.{statement}
 use Rattle.residue_marks.proofs.sweep_places.Tie as tie
+use Rattle.residue_marks.proofs.sweep_places.Reads as reads
+use Rattle.residue_marks.proofs.sweep_places.Lts as lts
+use Rattle.residue_marks.proofs.sweep_cells.Reads as sweep-cells-reads
+use Rattle.residue_marks.proofs.sweep_edge.Reads as sweep-edge-reads
+use Rattle.residue_marks.proofs.sweep_run.Reads as sweep-run-reads
 
+-- src/lib.rt:152:17
 cast-width : tie.Need-cast-width
 cast-width c = search needs
 
+-- src/lib.rt:153:18
 cast-cells : tie.Need-cast-cells
 cast-cells c = search needs
 
+-- src/lib.rt:153:17
 mul-cells : tie.Need-mul-cells
 mul-cells c = search needs
 
+-- src/lib.rt:155:15
+add-end : tie.Need-add-end
+add-end c = search needs
+
+-- src/lib.rt:156:16
+mul-if1 : tie.Need-mul-if1
+mul-if1 c = search needs
+
+-- src/lib.rt:157:9
 sweep-cells-requires : tie.Need-sweep-cells-requires
 sweep-cells-requires c κs = search needs
 
+-- src/lib.rt:157:9
 same-length : tie.Need-same-length
 same-length c = search needs
 
+-- src/lib.rt:157:9
 returns : tie.Need-returns
 returns c = search needs
 
-add-if2 : tie.Need-add-if2
-add-if2 c = search needs
+-- src/lib.rt:160:41
+add-sweep-edge : tie.Need-add-sweep-edge
+add-sweep-edge c = search needs
 
-add-if2-2 : tie.Need-add-if2-2
-add-if2-2 c = search needs
+-- src/lib.rt:160:9
+sweep-edge-requires : tie.Need-sweep-edge-requires
+sweep-edge-requires c κs = search needs
 
-add-if2-3 : tie.Need-add-if2-3
-add-if2-3 c = search needs
-
-sweep-cells-requires-2 : tie.Need-sweep-cells-requires-2
-sweep-cells-requires-2 c κs = search needs
-
+-- src/lib.rt:160:9
 same-length-2 : tie.Need-same-length-2
 same-length-2 c = search needs
 
+-- src/lib.rt:160:9
 returns-2 : tie.Need-returns-2
-returns-2 c = search needs
+returns-2 c =
+    let at-if2 = c .before .before .before .before .before in
+    let at-if1 = at-if2 .before in
+    let at-start = at-if1 .before .before .before .before .before .before in
+    edge-top _ _ (at-start .pre .1) _ _ _ _ _ _ _ _ (at-start .pre .0 .wide) (at-if1 .if1 .left) (at-if2 .if2 .taken)
+    (c .before .before .sweep-edge .ensures)
 
-sweep-run-requires : tie.Need-sweep-run-requires
-sweep-run-requires c κs = search needs
+-- src/lib.rt:162:17
+add-if3 : tie.Need-add-if3
+add-if3 c = search needs
 
+-- src/lib.rt:163:41
+sub-sweep-edge : tie.Need-sub-sweep-edge
+sub-sweep-edge c = search needs
+
+-- src/lib.rt:163:9
+sweep-edge-requires-2 : tie.Need-sweep-edge-requires-2
+sweep-edge-requires-2 c κs = search needs
+
+-- src/lib.rt:163:9
 same-length-3 : tie.Need-same-length-3
 same-length-3 c = search needs
 
+-- src/lib.rt:163:9
 returns-3 : tie.Need-returns-3
 returns-3 c =
-    let at-if2 = c .before .before .before .before .before in
-    let at-if1 = at-if2 .before .before in
+    let at-if3 = c .before .before .before .before .before in
+    let at-if1 = at-if3 .before .before in
     let at-start = at-if1 .before .before .before .before .before .before in
+    edge-bottom _ _ (at-start .pre .1) _ _ _ _ _ _ _ _ (at-start .pre .0 .wide) (at-if1 .if1 .left) (at-if3 .if3 .taken)
+    (at-start .pre .0 .within) (c .before .before .sweep-edge2 .ensures)
+
+-- src/lib.rt:166:9
+sweep-cells-requires-2 : tie.Need-sweep-cells-requires-2
+sweep-cells-requires-2 c κs = search needs
+
+-- src/lib.rt:166:9
+same-length-4 : tie.Need-same-length-4
+same-length-4 c = search needs
+
+-- src/lib.rt:166:9
+returns-4 : tie.Need-returns-4
+returns-4 c = search needs
+
+-- src/lib.rt:168:16
+add-if5 : tie.Need-add-if5
+add-if5 c = search needs
+
+-- src/lib.rt:168:16
+add-if5-2 : tie.Need-add-if5-2
+add-if5-2 c = search needs
+
+-- src/lib.rt:169:9
+sweep-cells-requires-3 : tie.Need-sweep-cells-requires-3
+sweep-cells-requires-3 c κs = search needs
+
+-- src/lib.rt:169:9
+same-length-5 : tie.Need-same-length-5
+same-length-5 c = search needs
+
+-- src/lib.rt:169:9
+returns-5 : tie.Need-returns-5
+returns-5 c = search needs
+
+-- src/lib.rt:171:5
+sweep-run-requires : tie.Need-sweep-run-requires
+sweep-run-requires c κs = search needs
+
+-- src/lib.rt:140:1
+same-length-6 : tie.Need-same-length-6
+same-length-6 c = search needs
+
+-- src/lib.rt:140:1
+returns-6 : tie.Need-returns-6
+returns-6 c =
+    let at-if5 = c .before .before .before .before .before in
+    let at-if4 = at-if5 .before in
+    let at-start = at-if4 .before .before .before .before .before .before .before .before .before in
     sweep-as _ _ _ _ _ _ _ _ _ _ _ _ (c .before .before .sweep-run .ensures)
-    (λ n a b. flat-near (at-start .args .head) (at-start .args .cur .now) (at-start .pre .1) n (at-start .pre .0 .wide) (omega (arith, a, at-if1 .if1 .left)) (omega (arith, b, at-if2 .if2 .left)))
+    (λ n a b. flat-near (at-start .args .head) (at-start .args .cur .now) (at-start .pre .1) n (at-start .pre .0 .wide) (omega (arith, a, at-if4 .if4 .left)) (omega (arith, b, at-if5 .if5 .left)))
 
 pub sweep-places-spec : {M : Type 1} → statement M
 sweep-places-spec =
@@ -62,15 +143,28 @@ sweep-places-spec =
     cast-width
     cast-cells
     mul-cells
+    add-end
+    mul-if1
     sweep-cells-requires
     same-length
     returns
-    add-if2
-    add-if2-2
-    add-if2-3
-    sweep-cells-requires-2
+    add-sweep-edge
+    sweep-edge-requires
     same-length-2
     returns-2
-    sweep-run-requires
+    add-if3
+    sub-sweep-edge
+    sweep-edge-requires-2
     same-length-3
-    returns-3)
+    returns-3
+    sweep-cells-requires-2
+    same-length-4
+    returns-4
+    add-if5
+    add-if5-2
+    sweep-cells-requires-3
+    same-length-5
+    returns-5
+    sweep-run-requires
+    same-length-6
+    returns-6)

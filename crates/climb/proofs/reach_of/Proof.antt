@@ -1,8 +1,8 @@
 -- `reach_of` finds a reach for every number up to the largest, so the other arm is never taken.
-use Rattle.listing_plunges.proofs.Plunges.{reach-is, reach-some}
+use Rattle.climb.proofs.Reaches.{reach-is, reach-some}
 use borrow.Author.Needs.{needs}
-use Rattle.listing_plunges.proofs.reach_of.Statement.{statement}
-use Rattle.listing_plunges.proofs.reach_of.Tie as tie
+use Rattle.climb.proofs.reach_of.Statement.{statement}
+use Rattle.climb.proofs.reach_of.Tie as tie
 
 cast-t4 : tie.Need-cast-t4
 cast-t4 c = search needs

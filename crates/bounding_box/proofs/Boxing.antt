@@ -1,0 +1,202 @@
+-- Laws of boxes: stretches without a number above 0, joined columns and rows, the box that they give, rows cropped one after the other.
+use mathlib.Core.Path.{_≡_, refl, ap, _∙_, subst}
+use mathlib.Core.List.{List}
+use Prim.Native.Nat.{ℕ, _+_, _*_, _-_, _≤_, _<_, max}
+use native.Mathlib.Omega.{arith}
+use native.Mathlib.Decide.{decLe}
+use native.Mathlib.Nat.{suc-mul, mul-le-mul-right, mul-le-mul}
+use native.Mathlib.Numerals.{add-one}
+use lib.ListN.{length, getD, set}
+use lib.Seq.{getD-set-same, getD-set-other}
+use Rattle.geometry.specs.declared.Head.{Head}
+use Rattle.geometry.specs.Plate.{area}
+use Rattle.refusal.specs.Sides.{Sides}
+use Rattle.buffers.specs.Fill.{Filled}
+use Rattle.buffers.proofs.Fill.{filled-none, filled-more, row-under}
+use Rattle.bounding_box.specs.declared.Bounds.{Bounds}
+use Rattle.bounding_box.specs.declared.Span.{Span}
+use Rattle.bounding_box.specs.Boxes.{Within, BareOutside, CroppedRows, Cropped, Croppable, Joined, Topped, Bare, Spans}
+
+-- ---- stretches without a number above 0
+
+module _ (l : List ℕ) where
+  pub bare-none : (from : ℕ) → Bare l from from
+  bare-none from = record { none = λ i a b. absurd (omega arith) }
+
+  -- one place more at the end
+  pub bare-more : (from to : ℕ) → Bare l from to → getD l to 0 ≡ 0 → Bare l from (to + 1)
+  bare-more from to u e = record { none = λ i a b. go i a b (decLe to i) }
+    where
+      go : (i : ℕ) → from ≤ i → i < to + 1 → Dec (to ≤ i) → getD l i 0 ≡ 0
+      go i a b (yes d) = let k : i ≡ to = omega arith in rw k e
+      go i a b (no d) = u .none i a (omega arith)
+
+  -- one place more at the start
+  pub bare-before : (from to : ℕ) → 0 < from → Bare l from to → getD l (from - 1) 0 ≡ 0 → Bare l (from - 1) to
+  bare-before from to h u e = record { none = λ i a b. go i a b (decLe from i) }
+    where
+      go : (i : ℕ) → from - 1 ≤ i → i < to → Dec (from ≤ i) → getD l i 0 ≡ 0
+      go i a b (yes d) = u .none i d b
+      go i a b (no d) = let k : i ≡ from - 1 = omega arith in rw k e
+
+  -- the places of a smaller stretch
+  pub bare-in : (a b from to : ℕ) → a ≤ from → to ≤ b → Bare l a b → Bare l from to
+  bare-in a b from to h g u = record { none = λ i c d. u .none i (omega arith) (omega arith) }
+
+  -- from the first place with a number above 0 up to the end of the last
+  pub spans-some : (n first end : ℕ) → end ≤ n → first < end → Bare l 0 first → Bare l end n → Spans n (record { first = first; number = end - first }) l
+  spans-some n first end a b u v =
+      let k : end ≡ first + (end - first) = omega arith in
+      record { some = omega arith; within = omega arith; under = u; over = subst (λ (j : ℕ). Bare l j n) k v }
+
+  -- where there is no such place, any span will do
+  pub spans-none : (n first end : ℕ) → 1 ≤ n → end ≤ first → Bare l 0 first → Bare l end n → Spans n (record { first = 0; number = 1 }) l
+  spans-none n first end a b u v =
+      record { some = omega arith; within = omega arith; under = bare-none 0; over = record { none = λ i c d. go i d (decLe end i) } }
+    where
+      go : (i : ℕ) → i < n → Dec (end ≤ i) → getD l i 0 ≡ 0
+      go i d (yes e) = v .none i e d
+      go i d (no e) = u .none i (omega arith) (omega arith)
+
+-- ---- joined columns and rows
+
+module _ (start : ℕ) (m old : List ℕ) where
+  pub joined-none : Joined start 0 m old old 0
+  joined-none = record { columns = filled-none (λ x. max (getD old x 0) (getD m (start + x) 0)) 0 old; bound = λ x a. absurd (omega arith) }
+
+  -- one column more
+  pub joined-more : (x v all top : ℕ) (mid : List ℕ) → Joined start x m old mid all → x < length old → v ≡ max (getD mid x 0) (getD m (start + x) 0)
+      → top ≡ max all (getD m (start + x) 0) → Joined start (x + 1) m old (set mid x v) top
+  joined-more x v all top mid j h e g =
+      record {
+        columns =
+            filled-more (λ i. max (getD old i 0) (getD m (start + i) 0)) 0 x v old mid (j .columns) (omega arith) h
+            (e ∙ ap (λ (n : ℕ). max n (getD m (start + x) 0)) (j .columns .over x (omega arith)));
+        bound = λ i a. go i a (decLe x i);
+      }
+    where
+      go : (i : ℕ) → i < x + 1 → Dec (x ≤ i) → getD m (start + i) 0 ≤ top
+      go i a (yes d) = let k : i ≡ x = omega arith in rw k (omega arith)
+      go i a (no d) = omega (arith, j .bound i (omega arith))
+
+  pub joined-end : (x w all : ℕ) (new : List ℕ) → x ≤ w → w ≤ x → Joined start x m old new all → Joined start w m old new all
+  joined-end x w all new a b j = let k : x ≡ w = omega arith in subst (λ (i : ℕ). Joined start i m old new all) k j
+
+module _ (w : ℕ) (m : List ℕ) where
+  pub topped-none : (columns rows : List ℕ) → Topped w 0 m columns rows
+  topped-none columns rows = record { across = λ x y a b. absurd (omega arith); down = λ x y a b. absurd (omega arith) }
+
+  -- one row more
+  pub topped-more : (y all : ℕ) (columns columns′ rows : List ℕ) → Topped w y m columns rows → Joined (y * w) w m columns columns′ all → y < length rows
+      → Topped w (y + 1) m columns′ (set rows y all)
+  topped-more y all columns columns′ rows t j h =
+      record { across = λ x i a b. column x i a b (decLe y i); down = λ x i a b. row x i a b (decLe y i) }
+    where
+      column : (x i : ℕ) → x < w → i < y + 1 → Dec (y ≤ i) → getD m (i * w + x) 0 ≤ getD columns′ x 0
+      column x i a b (yes d) = let k : i ≡ y = omega arith in rw k (omega (arith, j .columns .inside x (omega arith) a))
+      column x i a b (no d) = omega (arith, t .across x i a (omega arith), j .columns .inside x (omega arith) a)
+
+      row : (x i : ℕ) → x < w → i < y + 1 → Dec (y ≤ i) → getD m (i * w + x) 0 ≤ getD (set rows y all) i 0
+      row x i a b (yes d) = let k : i ≡ y = omega arith in rw k (omega (arith, j .bound x a, getD-set-same rows y all 0 h))
+      row x i a b (no d) = omega (arith, t .down x i a (omega arith), getD-set-other rows y i all 0 (omega arith))
+
+  pub topped-end : (y h : ℕ) (columns rows : List ℕ) → y ≤ h → h ≤ y → Topped w y m columns rows → Topped w h m columns rows
+  topped-end y h columns rows a b t = let k : y ≡ h = omega arith in subst (λ (i : ℕ). Topped w i m columns rows) k t
+
+-- ---- the box
+
+-- the box of two spans
+abbrev pub boxOf : Span → Span → Bounds
+boxOf a d = record { column = a .first; row = d .first; width = a .number; height = d .number }
+
+module _ (p : Head) (a d : Span) (columns rows : List ℕ) where
+  pub box-within : Spans (p .width) a columns → Spans (p .height) d rows → Within p (boxOf a d)
+  box-within s t = record { wide = s .some; tall = t .some; across = s .within; down = t .within }
+
+  pub box-bare : (m : List ℕ) → Topped (p .width) (p .height) m columns rows → Spans (p .width) a columns → Spans (p .height) d rows
+      → BareOutside p (boxOf a d) m
+  box-bare m t s u =
+      record {
+        west = λ x y g h l. omega (arith, t .across x y g h, s .under .none x (omega arith) l);
+        east = λ x y g h l. omega (arith, t .across x y g h, s .over .none x l g);
+        north = λ x y g h l. omega (arith, t .down x y g h, u .under .none y (omega arith) l);
+        south = λ x y g h l. omega (arith, t .down x y g h, u .over .none y l h);
+      }
+
+-- ---- rows cropped
+
+-- a box of a plate can be cropped to
+pub within-croppable : (p : Head) (b : Bounds) (m : List ℕ) → Sides p → Within p b → area p ≤ length m → Croppable (p .width) b m
+within-croppable p b m s h l =
+    record {
+      wide = h .wide;
+      narrow = omega (arith, s .narrow, h .across);
+      across = h .across;
+      down = omega (arith, mul-le-mul-right (p .width) (h .down));
+    }
+
+module _ (w : ℕ) (b : Bounds) (old : List ℕ) where
+  -- a row of the box lies in the map, and so does the place that it gets, which is no later
+  pub record Room (y : ℕ) : Type 0 where
+    pub fits : y + b .row ≤ length old
+    pub source : (y + b .row) * w + b .column + b .width ≤ length old
+    pub target : y * b .width + b .width ≤ length old
+    pub behind : y * b .width ≤ (y + b .row) * w + b .column
+
+  pub room : Croppable w b old → (y : ℕ) → y < b .height → Room y
+  room h y l =
+      let last : y + b .row + 1 ≤ b .row + b .height = omega arith in
+      let rows : (y + b .row + 1) * w ≤ (b .row + b .height) * w = mul-le-mul-right w last in
+      let more : (y + b .row + 1) * w ≡ (y + b .row) * w + w = ap (λ (n : ℕ). n * w) (add-one (y + b .row)) ∙ suc-mul (y + b .row) w in
+      let first : y ≤ y + b .row = omega arith in
+      let narrow : b .width ≤ w = omega (arith, h .across) in
+      let least : y * b .width ≤ (y + b .row) * w = mul-le-mul first narrow in
+      let columns : 1 ≤ w = omega (arith, h .wide, narrow) in
+      let many : (y + b .row) * 1 ≤ (y + b .row) * w = mul-le-mul (omega arith) columns in
+      record {
+        fits = omega (arith, many, more, rows, h .down);
+        source = omega (arith, more, rows, h .down, h .across);
+        target = omega (arith, least, more, rows, h .down, narrow);
+        behind = omega (arith, least);
+      }
+
+  pub cropped-none : CroppedRows w b 0 old old
+  cropped-none = record { same = refl; holds = λ x y g l. absurd (omega arith); surplus = λ n l. refl }
+
+  -- one row more, by way of an array
+  pub cropped-more : (y : ℕ) (mid new line line′ : List ℕ) → Room y → CroppedRows w b y old mid
+      → Filled (λ n. getD mid ((y + b .row) * w + b .column + n) 0) 0 (b .width) line line′
+      → Filled (λ n. getD line′ (n - y * b .width) 0) (y * b .width) (y * b .width + b .width) mid new → CroppedRows w b (y + 1) old new
+  cropped-more y mid new line line′ r c f g =
+      record {
+        same = g .same ∙ c .same;
+        holds = λ x i a h. go x i a h (decLe y i);
+        surplus = λ n h. g .over n (omega (arith, more)) ∙ c .surplus n (omega (arith, more));
+      }
+    where
+      more : (y + 1) * b .width ≡ y * b .width + b .width
+      more = ap (λ (n : ℕ). n * b .width) (add-one y) ∙ suc-mul y (b .width)
+
+      go : (x i : ℕ) → x < b .width → i < y + 1 → Dec (y ≤ i) → getD new (i * b .width + x) 0 ≡ getD old ((i + b .row) * w + (x + b .column)) 0
+      go x i a h (yes d) =
+          let k : i ≡ y = omega arith in
+          let j : y * b .width + x - y * b .width ≡ x = omega arith in
+          let s : (y + b .row) * w + b .column + x ≡ (y + b .row) * w + (x + b .column) = omega arith in
+          rw k
+          (g .inside (y * b .width + x) (omega arith) (omega arith) ∙ ap (λ (n : ℕ). getD line′ n 0) j ∙ f .inside x (omega arith) a
+          ∙ c .surplus ((y + b .row) * w + b .column + x) (omega (arith, r .behind)) ∙ ap (λ (n : ℕ). getD old n 0) s)
+      go x i a h (no d) =
+          g .under (i * b .width + x) (row-under (b .width) y x i a (omega arith)) ∙ c .holds x i a (omega arith)
+
+  pub cropped-end : (y : ℕ) (new : List ℕ) → y ≤ b .height → b .height ≤ y → CroppedRows w b y old new → Cropped w b old new
+  cropped-end y new l g c = let k : y ≡ b .height = omega arith in subst (λ (n : ℕ). CroppedRows w b n old new) k c
+
+  -- rows of the whole width from the first on stand where they are to stand
+  pub cropped-whole : b .row ≡ 0 → b .width ≡ w → b .column + b .width ≤ w → Cropped w b old old
+  cropped-whole e g l = record { same = refl; holds = λ x y a h. ap (λ (n : ℕ). getD old n 0) (at x y); surplus = λ n h. refl }
+    where
+      at : (x y : ℕ) → y * b .width + x ≡ (y + b .row) * w + (x + b .column)
+      at x y =
+          let k : y ≡ y + b .row = omega arith in
+          let j : y * b .width ≡ (y + b .row) * w = ap (λ (n : ℕ). y * n) g ∙ ap (λ (n : ℕ). n * w) k in
+          omega (arith, j, l, g)

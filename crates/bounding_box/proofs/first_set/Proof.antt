@@ -1,0 +1,48 @@
+-- `first_set` looks at place after place: the invariant is that no number before the place reached is above 0.
+use Prim.Native.Nat.{_-_, _≤_}
+use native.Mathlib.Omega.{arith}
+use Rattle.bounding_box.specs.Boxes.{Bare}
+use Rattle.bounding_box.proofs.Boxing.{bare-none, bare-more, bare-in}
+use Rattle.bounding_box.proofs.first_set.Statement.{statement}
+use Rattle.bounding_box.proofs.first_set.Tie as tie
+
+abbrev Inv-loop : tie.InvT-loop
+Inv-loop numbers n first₀ first = (first ≤ n) × Bare numbers 0 first
+
+abbrev μ-loop : tie.MeasureT-loop
+μ-loop numbers n first₀ first = n - first
+
+loop-holds : tie.Need-loop-holds Inv-loop μ-loop
+loop-holds c = (omega arith, bare-none _ 0)
+
+element-copy-out-if1 : tie.Need-element-copy-out-if1 Inv-loop μ-loop
+element-copy-out-if1 c = omega arith
+
+returns : tie.Need-returns Inv-loop μ-loop
+returns c = (omega arith, c .before .before .before .loop .inv .1)
+
+add-first : tie.Need-add-first Inv-loop μ-loop
+add-first c = omega arith
+
+loop-less : tie.Need-loop-less Inv-loop μ-loop
+loop-less c = omega arith
+
+loop-again : tie.Need-loop-again Inv-loop μ-loop
+loop-again c = (omega arith, bare-more _ _ _ (c .before .before .before .loop .inv .1) (omega (arith, c .if1 .left)))
+
+returns-2 : tie.Need-returns-2 Inv-loop μ-loop
+returns-2 c = (omega arith, bare-in _ _ _ _ _ (omega arith) (c .loop-test .left) (c .before .loop .inv .1))
+
+pub first-set-spec : {M : Type 1} → statement M
+first-set-spec =
+    tie.close
+    (tie.spec
+    Inv-loop
+    μ-loop
+    loop-holds
+    element-copy-out-if1
+    returns
+    add-first
+    loop-less
+    loop-again
+    returns-2)

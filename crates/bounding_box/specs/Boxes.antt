@@ -1,0 +1,83 @@
+-- Serves proofs: a box of a plate outside of which a map is 0, what finding it leaves in arrays, and a map cropped to a box.
+use mathlib.Core.Path.{_≡_}
+use mathlib.Core.List.{List}
+use Prim.Native.Nat.{ℕ, _+_, _*_, _≤_, _<_, max}
+use lib.ListN.{length, getD}
+use Rattle.geometry.specs.declared.Head.{Head}
+use Rattle.geometry.specs.Plate.{area}
+use Rattle.refusal.specs.Refusals.{largestSide}
+use Rattle.refusal.specs.Sides.{Sides}
+use Rattle.buffers.specs.Fill.{Filled}
+use Rattle.bounding_box.specs.declared.Bounds.{Bounds}
+use Rattle.bounding_box.specs.declared.Span.{Span}
+
+-- ---- boxes
+
+-- a box of a plate, with some columns and some rows
+pub record Within (p : Head) (b : Bounds) : Type 0 where
+  pub wide : 1 ≤ b .width
+  pub tall : 1 ≤ b .height
+  pub across : b .column + b .width ≤ p .width
+  pub down : b .row + b .height ≤ p .height
+
+-- a map is 0 at all cells of the plate outside of a box
+pub record BareOutside (p : Head) (b : Bounds) (m : List ℕ) : Type 0 where
+  pub west : (x y : ℕ) → x < p .width → y < p .height → x < b .column → getD m (y * p .width + x) 0 ≡ 0
+  pub east : (x y : ℕ) → x < p .width → y < p .height → b .column + b .width ≤ x → getD m (y * p .width + x) 0 ≡ 0
+  pub north : (x y : ℕ) → x < p .width → y < p .height → y < b .row → getD m (y * p .width + x) 0 ≡ 0
+  pub south : (x y : ℕ) → x < p .width → y < p .height → b .row + b .height ≤ y → getD m (y * p .width + x) 0 ≡ 0
+
+-- the numbers of a box's first rows stand at the front of a map, row after row; what lies past them is as it was
+pub record CroppedRows (w : ℕ) (b : Bounds) (rows : ℕ) (old new : List ℕ) : Type 0 where
+  pub same : length new ≡ length old
+  pub holds : (x y : ℕ) → x < b .width → y < rows → getD new (y * b .width + x) 0 ≡ getD old ((y + b .row) * w + (x + b .column)) 0
+  pub surplus : (n : ℕ) → rows * b .width ≤ n → getD new n 0 ≡ getD old n 0
+
+-- a box's numbers stand at the front of a map
+abbrev pub Cropped : ℕ → Bounds → List ℕ → List ℕ → Type 0
+Cropped w b = CroppedRows w b (b .height)
+
+-- a box, no wider than a plate may be, of a map with rows of w bytes
+pub record Croppable (w : ℕ) (b : Bounds) (m : List ℕ) : Type 0 where
+  pub wide : 1 ≤ b .width
+  pub narrow : b .width ≤ largestSide
+  pub across : b .column + b .width ≤ w
+  pub down : (b .row + b .height) * w ≤ length m
+
+-- ---- joined columns and rows
+
+-- a stretch of a map can be joined to numbers of columns
+pub record Joinable (start w : ℕ) (m columns : List ℕ) : Type 0 where
+  pub room : start + w ≤ length m
+  pub narrow : w ≤ largestSide
+  pub size : length columns ≡ largestSide
+
+-- each column has the higher of its number and the stretch's; no number of the stretch is above `all`
+pub record Joined (start w : ℕ) (m old new : List ℕ) (all : ℕ) : Type 0 where
+  pub columns : Filled (λ x. max (getD old x 0) (getD m (start + x) 0)) 0 w old new
+  pub bound : (x : ℕ) → x < w → getD m (start + x) 0 ≤ all
+
+-- a plate's map, and arrays for its columns and its rows
+pub record Plates (p : Head) (m columns rows : List ℕ) : Type 0 where
+  pub sides : Sides p
+  pub room : area p ≤ length m
+  pub across : length columns ≡ largestSide
+  pub down : length rows ≡ largestSide
+
+-- no number of a map's first rows is above that of its column or that of its row
+pub record Topped (w height : ℕ) (m columns rows : List ℕ) : Type 0 where
+  pub across : (x y : ℕ) → x < w → y < height → getD m (y * w + x) 0 ≤ getD columns x 0
+  pub down : (x y : ℕ) → x < w → y < height → getD m (y * w + x) 0 ≤ getD rows y 0
+
+-- ---- the places of an array with a number above 0
+
+-- there is none from one place up to another
+pub record Bare (l : List ℕ) (from to : ℕ) : Type 0 where
+  pub none : (i : ℕ) → from ≤ i → i < to → getD l i 0 ≡ 0
+
+-- a span of the first n places, with some of them, holds them all
+pub record Spans (n : ℕ) (s : Span) (l : List ℕ) : Type 0 where
+  pub some : 1 ≤ s .number
+  pub within : s .first + s .number ≤ n
+  pub under : Bare l 0 (s .first)
+  pub over : Bare l (s .first + s .number) n

@@ -1,0 +1,387 @@
+-- Laws of a climb: a region settled on, a residue's first place as a new beginning, one run more, and the whole listing at the end.
+use mathlib.Core.Path.{_≡_, refl, sym, ap, ap₂, _∙_, subst}
+use mathlib.Core.Logic.{_⊎_, inl, inr}
+use mathlib.Core.Bool.{Bool, true, false, cond}
+use mathlib.Core.List.{List, [], _∷_, _++_, map, map-append, append-assoc, append-nil}
+use Prim.Native.Nat.{ℕ, zero, suc, _+_, _*_, _-_, _%_, _/_, _≤_, _<_, max}
+use native.Mathlib.Omega.{arith}
+use native.Mathlib.Decide.{decLe}
+use native.Mathlib.Nat.{mul-le-mul}
+use lib.Dec.{eqb}
+use lib.ListN.{length, getD}
+use Rattle.geometry.specs.declared.Head.{Head}
+use Rattle.geometry.specs.declared.Plunge.{Plunge}
+use Rattle.geometry.specs.declared.Reach.{Reach}
+use Rattle.geometry.specs.Lists.{gather}
+use Rattle.geometry.specs.Plane.{Cell, cell}
+use Rattle.geometry.specs.Plate.{On, area, at}
+use Rattle.theory.specs.Erosion.{erosion}
+use Rattle.theory.specs.Listing.{listing}
+use Rattle.theory.proofs.Plate.{on-or-off, at-cell}
+use Rattle.theory.proofs.Erosion.{erosion-off, erosion-zero}
+use Rattle.theory.proofs.Lists.{gather-same}
+use Rattle.refusal.specs.Refusals.{largestSide, largestErosion}
+use Rattle.refusal.specs.Sides.{Sides}
+use Rattle.buffers.specs.Fill.{Filled, PlateOnly}
+use Rattle.bounding_box.specs.declared.Bounds.{Bounds}
+use Rattle.bounding_box.specs.Boxes.{Within, BareOutside, Cropped}
+use Rattle.erosion_series.proofs.Pairs.{kept-none, kept-more, kept-copy, held-start}
+use Rattle.residue_marks.specs.Marks.{markPlaces}
+use Rattle.residue_series.specs.declared.Stand.{Stand}
+use Rattle.residue_series.specs.declared.Run.{Run}
+use Rattle.residue_series.specs.Plunges.{listedReach, soFar, plungeAt, onMark, marksTo}
+use Rattle.residue_series.specs.Stands.{Midway, Level, Standing, listedTo, left, leftAt, runListed, Startable, Started, Taken, TakenOf}
+use Rattle.residue_series.proofs.Plunges.{erosion-north, row-above, so-far-next}
+use Rattle.residue_series.proofs.Stands.{standing-rest}
+use Rattle.climb.specs.declared.Region.{Region}
+use Rattle.climb.specs.declared.Climb.{Climb}
+use Rattle.climb.specs.declared.Found.{Found}
+use Rattle.climb.specs.declared.Step.{Step}
+use Rattle.climb.specs.Regions.{moved, RegionOf}
+use Rattle.climb.specs.Climbs.{plungeOf, foundPlunges, FoundMarks, RegionIn, listedWith, Climbing, leftOf, Settleable, CroppedRegion}
+use Rattle.climb.specs.Climbs.{Settled, Begun, Turnable, Turning, StepOf, Narrowed, Stepped}
+use Rattle.climb.proofs.Regions.{gather-map, region-reaches, region-listing, region-later, region-whole, region-cropped}
+
+-- only the bytes of a smaller plate are others
+pub plate-only : (p p′ : Head) (old new : List ℕ) → area p′ ≤ area p → PlateOnly p′ old new → PlateOnly p old new
+plate-only p p′ old new h k = record { same = k .same; surplus = λ n l. k .surplus n (omega arith) }
+
+-- a region has no more cells than the plate that it lies on
+pub region-area : (p : Head) (m : List ℕ) (k dx dy : ℕ) (p′ : Head) (m′ : List ℕ) → RegionOf p m k dx dy p′ m′ → area p′ ≤ area p
+region-area p m k dx dy p′ m′ r =
+    let a : p′ .height ≤ p .height = let h = r .high in omega arith in
+    let b : p′ .width ≤ p .width = let h = r .wide in omega arith in
+    mul-le-mul a b
+
+-- ---- a region settled on
+
+-- the part of a region that is not bare
+pub crops : (r : Region) (a a′ b : List ℕ) (x : Bounds) (asks : Settleable r a b) → Within (r .head) x → BareOutside (r .head) x a
+    → Cropped (r .head .width) x a a′ → CroppedRegion r a a′ (record {
+      head = record { kind = r .head .kind; width = x .width; height = x .height };
+      column = r .column + x .column;
+      row = r .row + x .row;
+      erosion = r .erosion;
+    })
+crops r a a′ b x asks w bare c =
+    let across = w .across in
+    let down = w .down in
+    let narrow = asks .sides .narrow in
+    let low = asks .sides .low in
+    let h : x .height ≤ r .head .height = omega arith in
+    let v : x .width ≤ r .head .width = omega arith in
+    let s : x .height * x .width ≤ area (r .head) = mul-le-mul h v in
+    record {
+      sides = record { wide = w .wide; narrow = omega arith; tall = w .tall; low = omega arith };
+      smaller = s;
+      same = refl;
+      only = record { same = c .same; surplus = λ n h. c .surplus n (omega arith) };
+      part = λ p m i. region-cropped p m (r .erosion) (r .column) (r .row) (r .head) a i (x .column) (x .row) _ a′ refl (w .across) (w .down)
+          (bare .west) (bare .east) (bare .north) (bare .south) (c .holds);
+    }
+
+-- a climb that begins on it
+pub settles : (plate : Head) (r r′ : Region) (limit : ℕ) (a a′ b b′ : List ℕ) (s : Stand) → Settleable r a b → CroppedRegion r a a′ r′
+    → limit ≡ largestErosion - r′ .erosion → Started (r′ .head) limit a′ b b′ s
+    → Settled plate r a a′ b b′ (record { plate = plate; region = r′; stand = s })
+settles plate r r′ limit a a′ b b′ s asks c is t =
+    record {
+      first = c .only;
+      second = plate-only (r .head) (r′ .head) b b′ (c .smaller) (t .kept);
+      climbs = λ p m e sides i. record {
+        plate = e;
+        sides = sides;
+        relief = a′;
+        region = c .part p m i;
+        limit = omega (arith, asks .some, c .same, t .first .0);
+        stands = λ e. t .stands;
+        listed = sym (
+            ap (λ l. gather (r′ .erosion) 0 (listedReach p m) ++ map (moved (r′ .erosion) (r′ .column) (r′ .row)) l) (t .listed)
+            ∙ append-nil (gather (r′ .erosion) 0 (listedReach p m))
+            ∙ ap (λ (k : ℕ). gather k 0 (listedReach p m)) (c .same)
+            );
+      };
+      left = λ places. fresh places;
+    }
+  where
+    fresh : (places : ℕ) → left places (r′ .head) s ≤ (largestErosion - r .erosion) * (places + 1)
+    fresh places =
+        let l : s .limit + 1 - s .number ≡ largestErosion - r .erosion = omega (arith, t .first .0, t .first .1, c .same) in
+        subst (λ (e : Bool). cond e (leftAt places (r′ .head) (s .limit) (s .number) (s .place)) 0 ≤ (largestErosion - r .erosion) * (places + 1))
+        (sym (t .first .3)) (omega (arith, ap (λ (k : ℕ). k * (places + 1)) l))
+
+-- ---- a climb before its first run
+
+pub begins : (p : Head) (m a₀ a a′ b b′ : List ℕ) (c : Climb) → Sides p → area p ≤ length m → area p ≤ length a₀
+    → Filled (λ n. getD m n 0) 0 (area p) a₀ a → Settled p (record { head = p; column = 0; row = 0; erosion = 0 }) a a′ b b′ c
+    → Begun p m a₀ a′ b b′ c
+begins p m a₀ a a′ b b′ c sides long room f s =
+    record {
+      first = kept-more p a₀ a a′ (kept-copy p _ a₀ a f) (s .first);
+      second = s .second;
+      climbs = s .climbs p m refl sides (region-whole p m a (λ o. held-start p m a₀ a long room f .holds o ∙ erosion-zero p m o));
+    }
+
+-- ---- a residue's first place as a new beginning
+
+module _ (p : Head) (m : List ℕ) (c : Climb) (a b : List ℕ) (done : List Plunge) (g : Climbing p m c a b done) where
+  abbrev k : ℕ
+  k = c .stand .number
+
+  abbrev w : ℕ
+  w = c .region .head .width
+
+  -- a climb's region lies on the plate
+  pub climbing-across : c .region .column + c .region .head .width ≤ largestSide
+  climbing-across = omega (arith, g .region .wide, g .sides .narrow)
+
+  pub climbing-down : c .region .row + c .region .head .height ≤ largestSide
+  climbing-down = omega (arith, g .region .high, g .sides .low)
+
+  pub climbing-area : area (c .region .head) ≤ area p
+  climbing-area = region-area p m _ _ _ _ _ (g .region)
+
+  -- the number of its residue, counted from the relief
+  pub climbing-numbers : c .stand .more ≡ true → (1 ≤ k) × (c .region .erosion + k ≤ largestErosion)
+  climbing-numbers e =
+      let some = g .stands e .level .some in
+      let last = g .stands e .level .last in
+      let limit = g .limit in
+      (omega arith, omega arith)
+
+  pub climbing-turnable : Turnable c
+  climbing-turnable =
+      record {
+        narrow = let a = climbing-across in omega arith;
+        low = λ e. let n = climbing-numbers e in (n .0, omega (arith, n .1));
+      }
+
+  module _ (t : Turning c) where
+    level : Level (c .region .head) (c .stand .limit) k (c .stand .place)
+    level = g .stands (t .more) .level
+
+    midway : Midway (c .region .head) (g .relief) k (c .stand .here) (c .stand .place) (c .stand .top) a b
+    midway = g .stands (t .more) .pair .odd (t .odd)
+
+    -- the first buffer holds the erosion before
+    turned : (o : Cell) → at (c .region .head) a o ≡ erosion (c .region .head) (g .relief) (k - 1) o
+    turned o = go (on-or-off (c .region .head) o)
+      where
+        by-place : (x y : ℕ) → x < w → y < c .region .head .height → Dec (c .stand .place ≤ y * w + x)
+            → getD a (y * w + x) 0 ≡ erosion (c .region .head) (g .relief) (k - 1) (cell x y)
+        by-place x y h l (yes e) = midway .behind x y h l e
+        by-place x y h l (no e) =
+            let r : y < k - 1 = row-above w (k - 1) x y (omega (arith, t .first)) in
+            midway .ahead x y h l (omega arith) ∙ erosion-north (c .region .head) (g .relief) (k + 1) x y (omega arith)
+            ∙ sym (erosion-north (c .region .head) (g .relief) (k - 1) x y r)
+
+        go : On (c .region .head) o ⊎ ((n : List ℕ) → at (c .region .head) n o ≡ 0)
+            → at (c .region .head) a o ≡ erosion (c .region .head) (g .relief) (k - 1) o
+        go (inr z) = z a ∙ sym (erosion-off (c .region .head) (g .relief) (k - 1) o z)
+        go (inl i) =
+            subst (λ d. at (c .region .head) a d ≡ erosion (c .region .head) (g .relief) (k - 1) d) (sym (i .is))
+            (at-cell (c .region .head) a (i .column) (i .row) (i .left) (i .upper)
+            ∙ by-place (i .column) (i .row) (i .left) (i .upper) (decLe (c .stand .place) (i .row * w + i .column)))
+
+    pub turn-region : RegionIn p m (record {
+      head = c .region .head;
+      column = c .region .column;
+      row = c .region .row;
+      erosion = c .region .erosion + (k - 1);
+    }) a
+    turn-region = region-later p m _ _ _ _ (g .relief) (g .region) (k - 1) a turned
+
+    -- all plunges of smaller reaches are listed
+    pub turn-listed : done ≡ gather (c .region .erosion + (k - 1)) 0 (listedReach p m)
+    turn-listed =
+        let some = level .some in
+        let last = level .place in
+        let e : k - 1 + 1 ≡ k = omega arith in
+        g .listed
+        ∙ ap (λ (t : Bool). listedWith p m (c .region) (cond t (soFar (c .region .head) (g .relief) k (c .stand .place))
+        (listing (c .region .head) (c .stand .limit) (g .relief)))) (t .more)
+        ∙ ap (λ (n : ℕ). listedWith p m (c .region) (soFar (c .region .head) (g .relief) k n)) (t .first)
+        ∙ ap (λ (n : ℕ). listedWith p m (c .region) (soFar (c .region .head) (g .relief) n ((k - 1) * w))) (sym e)
+        ∙ ap (listedWith p m (c .region)) (so-far-next (c .region .head) (g .relief) (level .sides .wide) (k - 1) (omega (arith, level .first, last)))
+        ∙ sym (region-reaches p m _ _ _ _ (g .relief) (g .region) (k - 1))
+
+    pub turn-asks : Settleable (record {
+      head = c .region .head;
+      column = c .region .column;
+      row = c .region .row;
+      erosion = c .region .erosion + (k - 1);
+    }) a b
+    turn-asks =
+        let some = level .some in
+        let last = level .last in
+        let limit = g .limit in
+        record {
+          sides = level .sides;
+          across = climbing-across;
+          down = climbing-down;
+          some = omega arith;
+          first = midway .long;
+          second = midway .held .long;
+        }
+
+    -- what is left is the same
+    turn-left : (places : ℕ) → (largestErosion - (c .region .erosion + (k - 1))) * (places + 1) ≤ left places (c .region .head) (c .stand)
+    turn-left places =
+        let some = level .some in
+        let last = level .last in
+        let limit = g .limit in
+        let e : largestErosion - (c .region .erosion + (k - 1)) ≡ c .stand .limit + 1 - k = omega arith in
+        subst (λ (e : Bool). (largestErosion - (c .region .erosion + (k - 1))) * (places + 1)
+        ≤ cond e (leftAt places (c .region .head) (c .stand .limit) k (c .stand .place)) 0)
+        (sym (t .more)) (omega (arith, ap (λ (n : ℕ). n * (places + 1)) e, t .first))
+
+    module _ (a′ b′ : List ℕ) (c′ : Climb) (s : Settled (c .plate) (record {
+      head = c .region .head;
+      column = c .region .column;
+      row = c .region .row;
+      erosion = c .region .erosion + (k - 1);
+    }) a a′ b b′ c′) where
+      pub turn-step : StepOf p m a a′ b b′ c′ done
+      turn-step =
+          record {
+            first = plate-only p _ a a′ climbing-area (s .first);
+            second = plate-only p _ b b′ climbing-area (s .second);
+            climbs = subst (Climbing p m c′ a′ b′) (sym turn-listed) (s .climbs p m (g .plate) (g .sides) turn-region);
+          }
+
+      pub turn-less : leftOf p c′ ≤ leftOf p c
+      turn-less = omega (arith, s .left (area p), turn-left (area p))
+
+  pub same-step : StepOf p m a a b b c done
+  same-step = record { first = kept-none p a; second = kept-none p b; climbs = g }
+
+-- ---- one run more
+
+-- marks stand for moved plunges
+marks-moved : (h : Plunge → Plunge) (f : ℕ → ℕ → Plunge) (start n : ℕ) (marks : List ℕ)
+    → map h (marksTo n f start marks) ≡ marksTo n (λ i d. h (f i d)) start marks
+marks-moved h f start n marks =
+    gather-map h n 0 (λ i. onMark f (start + i) (getD marks i 0))
+    ∙ gather-same n 0 _ _ (λ i l u. each (start + i) (getD marks i 0) (eqb (getD marks i 0) 0))
+  where
+    each : (i d : ℕ) (t : Bool) → map h (cond t [] (f i d ∷ [])) ≡ cond t [] (h (f i d) ∷ [])
+    each i d true = refl
+    each i d false = refl
+
+module _ (c : Climb) (a a′ b b′ marks′ : List ℕ) (run : Run) (reach : Reach) (is : reach .0 ≡ c .region .erosion + c .stand .number - 1)
+    (more : c .stand .more ≡ true) (taken : Taken (c .region .head) (c .stand) a a′ b b′ marks′ run) where
+  abbrev found : Found
+  found = record { region = c .region; reach = reach; places = run .places; deepest = run .deepest }
+
+  abbrev after : Climb
+  after = record { plate = c .plate; region = c .region; stand = run .next }
+
+  module _ (p : Head) (m : List ℕ) (done : List Plunge) (g : Climbing p m c a b done) where
+    of : TakenOf (c .region .head) (g .relief) (c .stand) a′ b′ marks′ run
+    of = taken .step (g .relief) (g .stands more)
+
+    found-moved : foundPlunges found marks′
+        ≡ map (moved (c .region .erosion) (c .region .column) (c .region .row)) (runListed (c .region .head) (g .relief) (c .stand .number) (run .places))
+    found-moved =
+        let some = g .stands more .level .some in
+        let e : reach .0 ≡ c .region .erosion + (c .stand .number - 1) = omega arith in
+        ap (λ (r : ℕ). marksTo (run .places .number)
+        (plungeOf (record { region = c .region; reach = record { 0 = r }; places = run .places; deepest = run .deepest }))
+        (run .places .start) marks′) e
+        ∙ sym (marks-moved (moved (c .region .erosion) (c .region .column) (c .region .row)) (plungeAt (c .region .head .width) (c .stand .number - 1))
+        (run .places .start) (run .places .number) marks′)
+        ∙ ap (map (moved (c .region .erosion) (c .region .column) (c .region .row))) (of .marked)
+
+    run-joined : done ++ foundPlunges found marks′ ≡ listedWith p m (c .region) (listedTo (c .region .head) (g .relief) (run .next))
+    run-joined =
+        ap₂ (λ (l o : List Plunge). l ++ o) (g .listed) found-moved
+        ∙ append-assoc (gather (c .region .erosion) 0 (listedReach p m)) (map move (listedTo (c .region .head) (g .relief) (c .stand))) _
+        ∙ ap (λ (l : List Plunge). gather (c .region .erosion) 0 (listedReach p m) ++ l)
+        (sym (map-append move (listedTo (c .region .head) (g .relief) (c .stand)) _)
+        ∙ ap (map move) (sym (of .listed ∙ ap (λ (t : Bool). cond t (soFar (c .region .head) (g .relief) (c .stand .number) (c .stand .place))
+        (listing (c .region .head) (c .stand .limit) (g .relief)) ++ runListed (c .region .head) (g .relief) (c .stand .number) (run .places)) (sym more))))
+      where
+        move : Plunge → Plunge
+        move = moved (c .region .erosion) (c .region .column) (c .region .row)
+
+    pub run-step : StepOf p m a a′ b b′ after (done ++ foundPlunges found marks′)
+    run-step =
+        let same = taken .same in
+        let limit = g .limit in
+        record {
+          first = plate-only p _ a a′ (climbing-area p m c a b done g) (taken .first);
+          second = plate-only p _ b b′ (climbing-area p m c a b done g) (taken .second);
+          climbs = record {
+            plate = g .plate;
+            sides = g .sides;
+            relief = g .relief;
+            region = g .region;
+            limit = omega arith;
+            stands = of .stands;
+            listed = run-joined;
+          };
+        }
+
+    pub run-less : leftOf p after < leftOf p c
+    run-less =
+        subst (λ (t : Bool). leftOf p after < cond t (leftAt (area p) (c .region .head) (c .stand .limit) (c .stand .number) (c .stand .place)) 0) (sym more)
+        (taken .less (area p) (climbing-area p m c a b done g))
+
+    pub run-marked : FoundMarks found marks′
+    run-marked =
+        record {
+          wide = g .stands more .level .sides .wide;
+          across = climbing-across p m c a b done g;
+          down = climbing-down p m c a b done g;
+          within = taken .within;
+          short = taken .short;
+          size = taken .size;
+          none = λ z. found-moved ∙ ap (map (moved (c .region .erosion) (c .region .column) (c .region .row))) (of .none z);
+        }
+
+  -- a run, and then the same climb on a smaller region
+  pub stepped : (p : Head) (m : List ℕ) (done : List Plunge) → Climbing p m c a b done → (a″ b″ : List ℕ) (c″ : Climb) → Narrowed after a′ a″ b′ b″ c″
+      → Stepped c a a″ b b″ marks′ (record { found = found; next = c″ })
+  stepped p m done g a″ b″ c″ n =
+      record {
+        marked = run-marked p m done g;
+        step = λ p m done g.
+            let s = run-step p m done g in
+            let t = n .step p m _ (s .climbs) in
+            record {
+              first = kept-more p a a′ a″ (s .first) (t .first);
+              second = kept-more p b b′ b″ (s .second) (t .second);
+              climbs = t .climbs;
+            };
+        less = λ p m done g. omega (arith, run-less p m done g, n .less p m _ (run-step p m done g .climbs));
+      }
+
+-- ---- the listing
+
+-- what a climb has listed is the listing's beginning, and at its end the whole
+module _ (p : Head) (m : List ℕ) (c : Climb) (a b : List ℕ) (done : List Plunge) (g : Climbing p m c a b done) where
+  whole : listing p largestErosion m ≡ listedWith p m (c .region) (listing (c .region .head) (c .stand .limit) (g .relief))
+  whole =
+      let limit = g .limit in
+      let e : largestErosion - c .region .erosion ≡ c .stand .limit = omega arith in
+      region-listing p m _ _ _ _ (g .relief) (g .region) largestErosion (omega arith)
+      ∙ ap (λ (n : ℕ). listedWith p m (c .region) (listing (c .region .head) n (g .relief))) e
+
+  pub climbing-end : c .stand .more ≡ false → done ≡ listing p largestErosion m
+  climbing-end e =
+      g .listed
+      ∙ ap (λ (t : Bool). listedWith p m (c .region) (cond t (soFar (c .region .head) (g .relief) (c .stand .number) (c .stand .place))
+      (listing (c .region .head) (c .stand .limit) (g .relief)))) e
+      ∙ sym whole
+
+  pub climbing-rest : (cs : List Plunge) × (listing p largestErosion m ≡ done ++ cs)
+  climbing-rest =
+      let r = standing-rest (c .region .head) (g .relief) (c .stand) (λ e. g .stands e .level) in (
+        map (moved (c .region .erosion) (c .region .column) (c .region .row)) (r .0),
+        whole
+            ∙ ap (listedWith p m (c .region)) (r .1)
+            ∙ ap (λ (l : List Plunge). gather (c .region .erosion) 0 (listedReach p m) ++ l)
+            (map-append (moved (c .region .erosion) (c .region .column) (c .region .row)) (listedTo (c .region .head) (g .relief) (c .stand)) (r .0))
+            ∙ sym (append-assoc (gather (c .region .erosion) 0 (listedReach p m)) _ _)
+            ∙ ap (λ (l : List Plunge). l ++ map (moved (c .region .erosion) (c .region .column) (c .region .row)) (r .0)) (sym (g .listed)),
+      )

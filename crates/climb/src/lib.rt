@@ -1,0 +1,192 @@
+// The climb of a relief: residue after residue, in runs of places, each on the region of the plate where its erosion is not bare.
+use geometry::Clearance;
+use geometry::Head;
+use geometry::MaybeReach;
+use geometry::Reach;
+use residue_marks::Places;
+use residue_series::Stand;
+ghost use mathlib.Core.Path.{_≡_};
+ghost use mathlib.Core.Bool.{true};
+ghost use Prim.Native.Nat.{_-_, _≤_};
+ghost use Rattle.refusal.specs.Refusals.{largestErosion};
+ghost use Rattle.refusal.specs.Sides.{Sides};
+ghost use Rattle.erosion_series.specs.Pairs.{SeriesBuffers};
+ghost use Rattle.climb.specs.Climbs.{Settleable, CroppedRegion, Settled, Begun, Turnable, Turning, ClimbingSome, Narrowed, Underway, Stepped};
+
+// A region is taken anew after so many residues, and one more for so many columns: about as many as have cost a residue in bare columns.
+const RESIDUES: usize = 12;
+
+const COLUMNS: usize = 24;
+
+// A region of a plate outside of which an erosion is 0: a plate of its own, where its first cell lies, and the erosion's number.
+pub struct Region {
+    pub head: Head,
+    pub column: usize,
+    pub row: usize,
+    pub erosion: usize,
+}
+
+// Where a climb is: its plate, its region, and where the series of the region's residues stands.
+pub struct Climb {
+    pub plate: Head,
+    pub region: Region,
+    pub stand: Stand,
+}
+
+// What an array of marks is of: a region, a reach, some places, and a number no lower than any mark.
+pub struct Found {
+    pub region: Region,
+    pub reach: Reach,
+    pub places: Places,
+    pub deepest: u8,
+}
+
+// A run of a climb, and where it is after it.
+pub struct Step {
+    pub found: Found,
+    pub next: Climb,
+}
+
+// The reach of a residue's number, which is one less.
+fn reach_of(number: usize) -> Reach
+    requires { ⌜ (1 ≤ number) × (number ≤ largestErosion) ⌝ }
+    ensures { λ r. ⌜ r .0 ≡ number - 1 ⌝ }
+{
+    let found = Reach::of_clearance(Clearance(number as u8));
+    match found {
+        MaybeReach::OfReach(reach) => reach,
+        MaybeReach::NoReach => Reach::MAX,
+    }
+}
+
+// The part of a region that is not bare, brought to the front of its buffer.
+fn crop_region(region: Region, a: &mut [u8]) -> Region
+    requires { ⌜ Settleable region (now a) (now a) ⌝ }
+    ensures { λ r. ⌜ CroppedRegion region (now (a .entry)) (now (a .exit)) r ⌝ }
+{
+    let head = region.head;
+    let kind = head.kind;
+    let found = bounding_box::bounds_of(head, a);
+    bounding_box::crop(head.width as usize, found, a);
+    let width = found.width as u16;
+    let height = found.height as u16;
+    Region {
+        head: Head {
+            kind,
+            width,
+            height,
+        },
+        column: region.column + found.column,
+        row: region.row + found.row,
+        erosion: region.erosion,
+    }
+}
+
+// A climb that begins with a region's erosion, which stands in the first buffer, on the part of it that is not bare.
+fn settle(plate: Head, region: Region, a: &mut [u8], b: &mut [u8]) -> Climb
+    requires { ⌜ Settleable region (now a) (now b) ⌝ }
+    ensures { λ r. ⌜ Settled plate region (now (a .entry)) (now (a .exit)) (now (b .entry)) (now (b .exit)) r ⌝ }
+{
+    let smaller = crop_region(region, a);
+    let limit = (refusal::LARGEST_EROSION as usize) - smaller.erosion;
+    let stand = residue_series::start(smaller.head, limit, a, b);
+    Climb {
+        plate,
+        region: smaller,
+        stand,
+    }
+}
+
+// The climb of a relief before its first run.
+pub fn begin(head: Head, relief: &[u8], a: &mut [u8], b: &mut [u8]) -> Climb
+    requires { ⌜ Sides head × SeriesBuffers head (now relief) (now a) (now b) ⌝ }
+    ensures { λ r. ⌜ Begun head (now (relief .entry)) (now (a .entry)) (now (a .exit)) (now (b .entry)) (now (b .exit)) r ⌝ }
+{
+    let cells = (head.height as usize) * (head.width as usize);
+    buffers::copy_run(relief, a, cells);
+    let whole = Region {
+        head,
+        column: 0,
+        row: 0,
+        erosion: 0,
+    };
+    settle(head, whole, a, b)
+}
+
+// Whether a climb takes its region anew: at the first place of an odd residue, after as many as make it worth while.
+fn is_turn(climb: Climb) -> bool
+    requires { ⌜ Turnable climb ⌝ }
+    ensures { λ r. ⌜ (r ≡ true → Turning climb) ⌝ }
+{
+    let stand = climb.stand;
+    let width = climb.region.head.width as usize;
+    if !stand.more {
+        return false;
+    }
+    if stand.number <= RESIDUES + width / COLUMNS {
+        return false;
+    }
+    if stand.number % 2 == 0 {
+        return false;
+    }
+    if stand.place != (stand.number - 1) * width {
+        return false;
+    }
+    true
+}
+
+// The same climb, on a smaller region where it is worth while.
+fn narrow(climb: Climb, a: &mut [u8], b: &mut [u8]) -> Climb
+    requires { ⌜ ClimbingSome climb (now a) (now b) ⌝ }
+    ensures { λ r. ⌜ Narrowed climb (now (a .entry)) (now (a .exit)) (now (b .entry)) (now (b .exit)) r ⌝ }
+{
+    if !is_turn(climb) {
+        return climb;
+    }
+    let plate = climb.plate;
+    let region = climb.region;
+    let head = region.head;
+    let erosion = region.erosion + (climb.stand.number - 1);
+    let here = Region {
+        head,
+        column: region.column,
+        row: region.row,
+        erosion,
+    };
+    settle(plate, here, a, b)
+}
+
+// The next run of a climb. `marks` is left with its marks: the depth of each marked place, 0 at the others.
+pub fn next(
+    climb: Climb,
+    a: &mut [u8],
+    b: &mut [u8],
+    marks: &mut [u8; residue_marks::MARK_PLACES],
+) -> Step
+    requires { ⌜ Underway climb (now a) (now b) (now marks) ⌝ }
+    ensures { λ r. ⌜ Stepped climb (now (a .entry)) (now (a .exit)) (now (b .entry)) (now (b .exit)) (now (marks .exit)) r ⌝ }
+{
+    let plate = climb.plate;
+    let region = climb.region;
+    let stand = climb.stand;
+    let run = residue_series::next_run(region.head, stand, a, b, marks);
+    let reach = reach_of(region.erosion + stand.number);
+    let places = run.places;
+    let found = Found {
+        region,
+        reach,
+        places,
+        deepest: run.deepest,
+    };
+    let after = run.next;
+    let next = narrow(
+        Climb {
+            plate,
+            region,
+            stand: after,
+        },
+        a,
+        b,
+    );
+    Step { found, next }
+}
