@@ -20,7 +20,7 @@ use Rattle.theory.specs.Listing.{drawn}
 use Rattle.theory.proofs.Plate.{length-tabulated, at-tabulated, tabulated-same}
 use Rattle.reading.specs.Reading.{IsReadable, headIn, plungesIn}
 use Rattle.jobs.specs.Calls.{relief, tidied}
-use Rattle.jobs.proofs.Alike.{alike-equal, common-self}
+use Rattle.job_check.proofs.Alike.{alike-equal, common-self}
 use Rattle.job_theorems.specs.Canonical.{Tidying, SamePlate, SameRelief}
 use Rattle.job_theorems.proofs.Canonical.{canonical-form, tidiable, file-is}
 use Rattle.comparison.specs.declared.Comparison.{Comparison}

@@ -1,11 +1,2 @@
 pub mod Quotients
 pub mod Scans
-pub mod Shortest
-pub mod Sizes
-pub mod Texts
-pub mod Nearest
-pub mod Back
-pub mod Ranges
-pub mod Floats
-pub mod RoundTrip
-pub mod Examples

@@ -1,2 +1,1 @@
-pub mod Narrow
 pub mod Promises

@@ -25,9 +25,9 @@ use Rattle.fields.specs.Fields.{fileLength}
 use Rattle.listing.specs.declared.ListAnswer.{ListAnswer}
 use Rattle.listing.specs.Answers.{roomTrials}
 use Rattle.jobs.specs.Calls.{ListAnswered, ListCall, listed}
-use Rattle.haruseopda.specs.declared.Plate.{Plate}
-use Rattle.haruseopda.specs.Narrow.{narrowByte, narrowWord, narrowPlate}
-use Rattle.haruseopda.proofs.Narrow.{Place, narrowPlace, wrongPlace, level-kept, number-kept, place-kept, narrowed}
+use Rattle.c_arguments.specs.declared.Plate.{Plate}
+use Rattle.c_arguments.specs.Narrow.{narrowByte, narrowWord, narrowPlate}
+use Rattle.c_arguments.proofs.Narrow.{Place, narrowPlace, wrongPlace, level-kept, number-kept, place-kept, narrowed}
 
 -- ---- promises that after a refusal do not speak of what would have been given
 

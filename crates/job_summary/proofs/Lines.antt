@@ -20,9 +20,10 @@ use Rattle.reading.specs.declared.Job.{Job}
 use Rattle.reading.specs.Reading.{plungesIn}
 use Rattle.reading.specs.Steps.{JobOf}
 use Rattle.motion.specs.Changes.{changesIn}
-use Rattle.job_summary.specs.Figures.{travelIn, volumeIn, isTidy}
+use Rattle.job_figures.specs.Figures.{travelIn}
+use Rattle.job_relief.specs.Relief.{volumeIn, isTidy}
 use Rattle.job_summary.specs.Summary.{plateLine, plungesLine, reachLine, lineOfReach, reachAt, reachLines, changesLine, travelLine, listText, volumeLine, tidyLine, summaryText}
-use Rattle.job_summary.specs.Passes.{reaches, Tallied}
+use Rattle.job_figures.specs.Passes.{reaches, Tallied}
 
 -- ---- one line
 

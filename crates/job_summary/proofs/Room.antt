@@ -14,7 +14,8 @@ use Rattle.numerals.proofs.Sizes.{numeral-most}
 use Rattle.phrases.specs.Phrases.{ascii, phrase}
 use Rattle.reading.specs.Reading.{headIn, plungesIn, total}
 use Rattle.motion.specs.Changes.{changesIn}
-use Rattle.job_summary.specs.Figures.{countOf, leastDepth, greatestDepth, travelIn, volumeIn, isTidy}
+use Rattle.job_figures.specs.Figures.{countOf, leastDepth, greatestDepth, travelIn}
+use Rattle.job_relief.specs.Relief.{volumeIn, isTidy}
 use Rattle.job_summary.specs.Summary.{plateLine, plungesLine, reachLine, reachAt, reachLines, changesLine, travelLine, listText, volumeLine, tidyLine, reliefText, summaryText, summaryRoom}
 
 -- a number has 20 digits at most

@@ -1,19 +1,17 @@
 -- To be believed: the text of a job's figures, one fact a line.
-use mathlib.Core.Path.{_≡_}
 use mathlib.Core.Bool.{Bool, cond}
 use mathlib.Core.List.{List, [], _++_}
 use Prim.Native.Nat.{ℕ, suc}
 use lib.Dec.{eqb}
-use lib.ListN.{drop}
 use Rattle.geometry.specs.declared.Head.{Head}
 use Rattle.geometry.specs.declared.Plunge.{Plunge}
 use Rattle.geometry.specs.Lists.{gather}
 use Rattle.geometry.specs.Forms.{kindByte, largestReach}
-use Rattle.geometry.specs.Plate.{area}
 use Rattle.reading.specs.Reading.{headIn, plungesIn, total}
 use Rattle.motion.specs.Changes.{changesIn}
 use Rattle.phrases.specs.Phrases.{ascii, phrase}
-use Rattle.job_summary.specs.Figures.{countOf, leastDepth, greatestDepth, travelIn, volumeIn, isTidy}
+use Rattle.job_figures.specs.Figures.{countOf, leastDepth, greatestDepth, travelIn}
+use Rattle.job_relief.specs.Relief.{volumeIn, isTidy}
 
 -- ---- the list
 
@@ -74,11 +72,3 @@ summaryText f = listText f ++ reliefText f
 -- bytes in which every such text has room
 abbrev pub summaryRoom : ℕ
 summaryRoom = 16384
-
--- ---- work buffers
-
--- their bytes past the file's plate stay
-pub record WorkedOn (f a a′ b b′ c c′ : List ℕ) : Type 0 where
-  pub first : drop (area (headIn f)) a′ ≡ drop (area (headIn f)) a
-  pub second : drop (area (headIn f)) b′ ≡ drop (area (headIn f)) b
-  pub third : drop (area (headIn f)) c′ ≡ drop (area (headIn f)) c

@@ -11,7 +11,7 @@ use Rattle.geometry.specs.Plane.{Cell}
 use Rattle.geometry.specs.Plate.{On, at}
 use Rattle.theory.specs.Listing.{listing, canonical}
 use Rattle.theory.specs.Blocks.{Answers, Block, answers, blocks}
-use Rattle.theory.proofs.Blocks.{blocks-hold, bare-none, none-bare}
+use Rattle.blocks.proofs.Blocks.{blocks-hold, bare-none, none-bare}
 use Rattle.refusal.specs.Refusals.{largestErosion}
 use Rattle.refusal.specs.Sides.{Sides}
 use Rattle.fields.specs.Fields.{encoded}

@@ -30,9 +30,10 @@ use Rattle.reading.proofs.Readable.{Sound, readable-sound, Writable, encoded-re
 use Rattle.reading.specs.Reading.{IsReadable, headIn, plungesIn, plungeAt, total}
 use Rattle.geometry.specs.Lists.{common}
 use Rattle.listing.specs.Answers.{listAnswer}
-use Rattle.jobs.specs.Calls.{relief, tidiedPlunges, tidied, workTrial, roomFor, tidyVerdict, alike, checkVerdict}
+use Rattle.jobs.specs.Calls.{relief, tidiedPlunges, tidied, workTrial, roomFor, tidyVerdict}
+use Rattle.job_check.specs.Checking.{alike, checkVerdict}
 use Rattle.job_theorems.specs.Canonical.{NoneMet, Tidying, file, Checking, SamePlate, SameRelief, Canonical, Lists, CanonicalForm, Tidiable}
-use Rattle.jobs.proofs.Alike.{refused-not, alike-same, alike-equal}
+use Rattle.job_check.proofs.Alike.{refused-not, alike-same, alike-equal}
 use Rattle.jobs.proofs.Calls.{worked-none}
 use Rattle.job_theorems.proofs.Answers.{after, tidy-accepts, given-file, given-lists, listing-writable, long-works, exact-room}
 

@@ -16,7 +16,8 @@ use Rattle.refusal.specs.Refusals.{Trial, firstMet, largestErosion}
 use Rattle.reading.specs.Reading.{IsReadable, headIn, plungesIn}
 use Rattle.listing.specs.declared.ListAnswer.{ListAnswer}
 use Rattle.listing.specs.declared.ListAnswer.the-variants.{Listed, Unlisted}
-use Rattle.jobs.specs.Calls.{relief, tidiedPlunges, TidyCall, CheckCall, workTrial, roomFor}
+use Rattle.jobs.specs.Calls.{relief, tidiedPlunges, TidyCall, workTrial, roomFor}
+use Rattle.job_check.specs.Checking.{CheckCall}
 
 -- none of some trials is met
 abbrev pub NoneMet : List Trial → Type 0

@@ -1,13 +1,13 @@
 -- What the calls on files leave, refused and done: their verdicts by the tests that were made, their buffers by what was done.
 use mathlib.Core.Path.{_≡_, refl, sym, ap, ap₂, _∙_, subst, fun-ext}
 use mathlib.Core.Logic.{_⊎_, inl, inr}
-use mathlib.Core.Bool.{Bool, true, false, cond, not}
+use mathlib.Core.Bool.{Bool, true, false, cond}
 use mathlib.Core.List.{List, [], _∷_, _++_}
 use Prim.Native.Nat.{ℕ, _*_, _≤_, _<_, min}
 use native.Mathlib.Omega.{arith}
 use borrow.Author.Tests.{lt-ltb, le-ltb}
 use lib.Dec.{ltb}
-use lib.ListN.{length, drop, getD}
+use lib.ListN.{length, drop}
 use Rattle.geometry.specs.declared.Head.{Head}
 use Rattle.geometry.specs.declared.Plunge.{Plunge}
 use Rattle.geometry.specs.Plane.{Cell}
@@ -18,7 +18,7 @@ use Rattle.theory.proofs.Canonical.{listing-same}
 use Rattle.refusal.specs.declared.Refusal.{Refusal}
 use Rattle.refusal.specs.declared.Verdict.{Verdict}
 use Rattle.refusal.specs.declared.Verdict.the-variants.{Accepted, Refused}
-use Rattle.refusal.specs.Refusals.{Trial, trial, firstMet, short, mapTrials, headOf, largestSide, largestErosion, free, written, Answered, Worked}
+use Rattle.refusal.specs.Refusals.{Trial, firstMet, short, mapTrials, headOf, largestErosion, free, written, Answered, Worked}
 use Rattle.refusal.proofs.Refusals.{shortest-two, same-verdict, map-sound, answered-refused}
 use Rattle.reading.proofs.Steps.{andThen, first-append}
 use Rattle.buffers.specs.Fill.{Mapped, PlateOnly}
@@ -30,13 +30,11 @@ use Rattle.reading.proofs.Readable.{readable-sound}
 use Rattle.reading.proofs.Answers.{after-file, file-fault}
 use Rattle.refusal.specs.Sides.{Sides}
 use Rattle.drawing.specs.Files.{Drawable}
-use Rattle.geometry.specs.Lists.{common}
 use Rattle.listing.specs.declared.ListAnswer.{ListAnswer}
 use Rattle.listing.specs.declared.ListAnswer.the-variants.{Unlisted}
 use Rattle.listing.specs.Staging.{ListedInto}
 use Rattle.listing.specs.Answers.{roomTrials, listAnswer}
-use Rattle.jobs.specs.Calls.{relief, plateTrial, drawVerdict, listed, listTrials, roomFor, listVerdict, ListAnswered, ListCall, tidiedPlunges, tidied, tidyVerdict, TidyCall, alike, checkVerdict, CheckCall}
-use Rattle.jobs.specs.Comparing.{Comparable, Compared}
+use Rattle.jobs.specs.Calls.{relief, plateTrial, drawVerdict, listed, listTrials, roomFor, listVerdict, ListAnswered, ListCall, tidiedPlunges, tidyVerdict, TidyCall}
 use Rattle.reading.specs.Steps.{JobOf}
 use Rattle.listing_plunges.specs.Listable.{Listable}
 
@@ -156,18 +154,6 @@ tidy-refused f q out a b c e =
 pub tidy-fault : (f : List ℕ) (q : Refusal) (out a b c : List ℕ) → firstMet (fileTrials f) ≡ Refused q → TidyCall f out out a a b b c c (Unlisted q)
 tidy-fault f q out a b c e = tidy-refused f q out a b c (file-fault f _ q e)
 
-check-refused : (f : List ℕ) (q : Refusal) (a b c : List ℕ) → checkVerdict f a b c ≡ Refused q → CheckCall f a a b b c c (Refused q)
-check-refused f q a b c e =
-    record {
-      answer = sym e;
-      first = worked-none (checkVerdict f a b c) (area (headIn f)) a;
-      second = worked-none (checkVerdict f a b c) (area (headIn f)) b;
-      third = worked-none (checkVerdict f a b c) (area (headIn f)) c;
-    }
-
-pub check-fault : (f : List ℕ) (q : Refusal) (a b c : List ℕ) → firstMet (fileTrials f) ≡ Refused q → CheckCall f a a b b c c (Refused q)
-check-fault f q a b c e = check-refused f q a b c (file-fault f _ q e)
-
 -- of a file that was read
 module _ (f : List ℕ) (j : Job) (w : JobOf f j) where
   -- what drawing asks
@@ -242,52 +228,6 @@ module _ (f : List ℕ) (j : Job) (w : JobOf f j) where
 
         lists : listing (headIn f) largestErosion c′ ≡ tidiedPlunges f
         lists = ap (λ (h : Head). listing h largestErosion c′) (sym (w .head)) ∙ drawn-lists f (j .head) (j .plunges) c c′ (w .head) (w .plunges) m
-
-        moved : (s s′ : List ℕ) → PlateOnly (j .head) s s′ → PlateOnly (headIn f) s s′
-        moved s s′ = subst (λ (h : Head). PlateOnly h s s′) (w .head)
-
-    -- the check
-    pub check-short : (q : Refusal) → q ≡ record { number = 4; place = 0 } → n < area (j .head) → CheckCall f a a b b c c (Refused q)
-    check-short q g l = check-refused f q a b c
-        (plate-fault f works _ (w .readable) (short-of works (short-three (j .head .width) (j .head .height) (length a) (length b) (length c) n e l))
-        ∙ sym (ap Refused g))
-
-    pub check-asks : area (j .head) ≤ n → ((i : ℕ) → getD f i 0 < 256) → (c′ : List ℕ)
-        → Mapped (j .head) (drawn (j .head .kind) (plungesUpTo (j .plunges) f)) c c′ → Comparable (j .head) (j .plunges) f c′ a b
-    check-asks l bs c′ m =
-        record {
-          readable = w .readable;
-          bytes = bs;
-          head = w .head;
-          count = w .plunges;
-          lists = drawn-lists f (j .head) (j .plunges) c c′ (w .head) (w .plunges) m;
-          relief = omega (arith, m .same);
-          first = omega arith;
-          second = omega arith;
-        }
-
-    pub check-done : area (j .head) ≤ n → (a′ b′ c′ : List ℕ) (r : Verdict) → Mapped (j .head) (drawn (j .head .kind) (plungesUpTo (j .plunges) f)) c c′
-        → Compared f r → PlateOnly (j .head) a a′ → PlateOnly (j .head) b b′ → CheckCall f a a′ b b′ c c′ r
-    check-done l a′ b′ c′ r m d x y =
-        record {
-          answer = d ∙ sym verdict;
-          first = worked-free v (headIn f) a a′ freed (moved a a′ x);
-          second = worked-free v (headIn f) b b′ freed (moved b b′ y);
-          third = worked-free v (headIn f) c c′ freed (moved c c′ (kept-mapped (j .head) _ c c′ m));
-        }
-      where
-        v : Verdict
-        v = checkVerdict f a b c
-
-        verdict : v ≡ firstMet (trial (not (alike f (tidied f))) 12 (common f (tidied f)) ∷ [])
-        verdict = no-fault f works _ (w .readable) (works-long l)
-
-        freed : free v ≡ true
-        freed = ap free verdict ∙ go (alike f (tidied f))
-          where
-            go : (t : Bool) → free (firstMet (trial (not t) 12 (common f (tidied f)) ∷ [])) ≡ true
-            go true = refl
-            go false = refl
 
         moved : (s s′ : List ℕ) → PlateOnly (j .head) s s′ → PlateOnly (headIn f) s s′
         moved s s′ = subst (λ (h : Head). PlateOnly h s s′) (w .head)

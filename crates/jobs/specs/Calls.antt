@@ -1,9 +1,8 @@
 -- To be believed: calls on plunge files: what each answers, and what its buffers hold at exit (document 01, "Plunge file, drawing, tidying" and "Refusals in their order").
 use mathlib.Core.Path.{_≡_}
-use mathlib.Core.Bool.{Bool, false, cond, not}
+use mathlib.Core.Bool.{false}
 use mathlib.Core.List.{List, [], _∷_, _++_}
 use Prim.Native.Nat.{ℕ}
-use lib.Dec.{eqb}
 use lib.ListN.{length}
 use Rattle.geometry.specs.declared.Head.{Head}
 use Rattle.geometry.specs.declared.Plunge.{Plunge}
@@ -14,7 +13,6 @@ use Rattle.refusal.specs.Refusals.{Trial, trial, firstMet, mapTrials, short, he
 use Rattle.fields.specs.Fields.{encoded, fileLength}
 use Rattle.reading.specs.Reading.{fileTrials, headIn, plungesIn}
 use Rattle.listing.specs.declared.ListAnswer.{ListAnswer}
-use Rattle.geometry.specs.Lists.{common}
 use Rattle.listing.specs.Answers.{roomTrials, listAnswer}
 
 -- ---- drawing
@@ -78,20 +76,3 @@ tidyVerdict f out a b c = firstMet (fileTrials f ++ (workTrial f a b c ∷ roomF
 pub record TidyCall (f out out′ a a′ b b′ c c′ : List ℕ) (r : ListAnswer) : Type 0 where
   pub list : ListAnswered (tidyVerdict f out a b c) (headIn f) (tidiedPlunges f) out out′ a a′ b b′ r
   pub third : Worked (tidyVerdict f out a b c) (area (headIn f)) c c′
-
--- ---- the tidy check
-
--- two files are equal, in length and in every byte
-abbrev pub alike : List ℕ → List ℕ → Bool
-alike f g = cond (eqb (length f) (length g)) (eqb (common f g) (length f)) false
-
--- "12: tidy check: file is not tidy", with "the first byte unlike the tidied file"
-abbrev pub checkVerdict : List ℕ → List ℕ → List ℕ → List ℕ → Verdict
-checkVerdict f a b c =
-    firstMet (fileTrials f ++ (workTrial f a b c ∷ trial (not (alike f (tidied f))) 12 (common f (tidied f)) ∷ []))
-
-pub record CheckCall (f a a′ b b′ c c′ : List ℕ) (r : Verdict) : Type 0 where
-  pub answer : r ≡ checkVerdict f a b c
-  pub first : Worked (checkVerdict f a b c) (area (headIn f)) a a′
-  pub second : Worked (checkVerdict f a b c) (area (headIn f)) b b′
-  pub third : Worked (checkVerdict f a b c) (area (headIn f)) c c′

@@ -1,26 +1,23 @@
-// Calls on plunge files: drawing, listing, tidying, the tidy check. Each tries its arguments and buffers first, in document 01's order.
+// Calls on plunge files: drawing, listing, tidying. Each tries its arguments and buffers first, in document 01's order.
 use geometry::Head;
 use listing::ListAnswer;
-use listing_pass::Pass;
 use reading::ReadAnswer;
 use refusal::Refusal;
 use refusal::Verdict;
 ghost use mathlib.Core.Path.{_≡_};
 ghost use Prim.Native.Nat.{min};
 ghost use Rattle.geometry.specs.Plate.{area};
-ghost use Rattle.buffers.specs.Fill.{PlateOnly};
-ghost use Rattle.jobs.specs.Calls.{Drawn, ListCall, TidyCall, CheckCall};
-ghost use Rattle.jobs.specs.Comparing.{Comparable, Compared};
+ghost use Rattle.jobs.specs.Calls.{Drawn, ListCall, TidyCall};
 
 // How many cells a plate has.
-fn cells_of(head: Head) -> usize
+pub fn cells_of(head: Head) -> usize
     ensures { λ r. ⌜ r ≡ area head ⌝ }
 {
     (head.height as usize) * (head.width as usize)
 }
 
 // The refusal of a short relief or work buffer.
-fn too_short() -> Refusal
+pub fn too_short() -> Refusal
     ensures { λ r. ⌜ r ≡ record { number = 4; place = 0 } ⌝ }
 {
     Refusal {
@@ -29,7 +26,7 @@ fn too_short() -> Refusal
     }
 }
 
-fn shortest(a: usize, b: usize, c: usize) -> usize
+pub fn shortest(a: usize, b: usize, c: usize) -> usize
     ensures { λ r. ⌜ r ≡ min (min a b) c ⌝ }
 {
     numbers::smaller(numbers::smaller(a, b), c)
@@ -93,58 +90,6 @@ pub fn tidy(file: &[u8], out: &mut [u8], a: &mut [u8], b: &mut [u8], c: &mut [u8
             }
             drawing::draw_into(head, file, job.plunges, c);
             listing::list_into(head, c, out, a, b)
-        }
-    }
-}
-
-// Compares the list of the relief that a file draws with the file's own plunges; 12 with the first byte unlike.
-fn compare(
-    head: Head,
-    plunges: usize,
-    file: &[u8],
-    relief: &[u8],
-    a: &mut [u8],
-    b: &mut [u8],
-) -> Verdict
-    requires { ⌜ Comparable head plunges (now file) (now relief) (now a) (now b) ⌝ }
-    ensures { λ r. ⌜ Compared (now (file .entry)) r × PlateOnly head (now (a .entry)) (now (a .exit)) × PlateOnly head (now (b .entry)) (now (b .exit)) ⌝ }
-{
-    let mut none = [0u8; 1];
-    let progress = listing_plunges::send_listing(
-        head,
-        Pass::Compare,
-        relief,
-        file,
-        &mut none,
-        a,
-        b,
-    );
-    if progress.like {
-        if progress.at == fields::place(head, plunges) {
-            return Verdict::Accepted;
-        }
-    }
-    Verdict::Refused(Refusal {
-        number: 12,
-        place: progress.at,
-    })
-}
-
-// Whether tidying would return the file's own bytes; else 12 with the first byte unlike. The file's refusals, then 4 and 12.
-pub fn check(file: &[u8], a: &mut [u8], b: &mut [u8], c: &mut [u8]) -> Verdict
-    ensures { λ r. ⌜ CheckCall (now (file .entry)) (now (a .entry)) (now (a .exit)) (now (b .entry)) (now (b .exit)) (now (c .entry)) (now (c .exit)) r ⌝ }
-{
-    let answer = reading::read(file);
-    match answer {
-        ReadAnswer::Unreadable(r) => Verdict::Refused(r),
-        ReadAnswer::Readable(job) => {
-            let head = job.head;
-            let room = shortest(a.len(), b.len(), c.len());
-            if room < cells_of(head) {
-                return Verdict::Refused(too_short());
-            }
-            drawing::draw_into(head, file, job.plunges, c);
-            compare(head, job.plunges, file, c, a, b)
         }
     }
 }

@@ -1,9 +1,9 @@
 // What a command makes of its input: bytes, a text, or a refusal.
 use listing::ListAnswer;
 use motion::MotionAnswer;
-use motion::Scale;
-use pgm::CopyAnswer;
+use motion_floats::Scale;
 use pgm::PictureFault;
+use pgm_copies::CopyAnswer;
 use reading::Job;
 use reading::ReadAnswer;
 use refusal::Refusal;
@@ -151,7 +151,7 @@ fn picture_of_scan(scan: &[u8], out: &mut [u8]) -> Outcome {
     let verdict = refusal::check_map(scan::byte_in(scan, 0), width, height, false, depths.len());
     match verdict {
         Verdict::Refused(refusal) => Outcome::Refused(refusal),
-        Verdict::Accepted => of_copy(pgm::put_picture(width, height, depths, out)),
+        Verdict::Accepted => of_copy(pgm_copies::put_picture(width, height, depths, out)),
     }
 }
 
@@ -163,13 +163,13 @@ fn picture_of_job(file: &[u8], out: &mut [u8], c: &mut [u8]) -> Outcome {
         Verdict::Accepted => {
             let width = scan::byte_in(file, 4) as u16;
             let height = scan::byte_in(file, 5) as u16;
-            of_copy(pgm::put_picture(width, height, c, out))
+            of_copy(pgm_copies::put_picture(width, height, c, out))
         }
     }
 }
 
 fn picture(input: &[u8], out: &mut [u8], c: &mut [u8]) -> Outcome {
-    if reasons::begins_as_job(input) {
+    if reasons_parts::begins_as_job(input) {
         return picture_of_job(input, out, c);
     }
     picture_of_scan(input, out)
@@ -187,15 +187,15 @@ pub fn outcome_of(
     c: &mut [u8],
 ) -> Outcome {
     match command {
-        Command::List => of_list(scan::list_scan(input, out, a, b)),
+        Command::List => of_list(scan_listing::list_scan(input, out, a, b)),
         Command::Draw => draw(input, out),
         Command::Tidy => of_list(jobs::tidy(input, out, a, b, c)),
-        Command::Check => of_verdict(jobs::check(input, a, b, c), 0),
+        Command::Check => of_verdict(job_check::check(input, a, b, c), 0),
         Command::Motions => motions(input, scale),
         Command::Show => show(input),
         Command::Info => info(input, out, a, b, c),
         Command::Same => Outcome::Done(0),
-        Command::Scan => of_copy(pgm::put_scan(input, kind, out)),
+        Command::Scan => of_copy(pgm_copies::put_scan(input, kind, out)),
         Command::Picture => picture(input, out, c),
         Command::Help => Outcome::Done(0),
         Command::Version => Outcome::Done(0),

@@ -6,7 +6,7 @@ mod refusals;
 
 use answers::Outcome;
 use comparison::Comparison;
-use motion::Scale;
+use motion_floats::Scale;
 use tool_words::Command;
 ghost use Prim.Native.Nat.{_≤_};
 ghost use lib.ListN.{length};

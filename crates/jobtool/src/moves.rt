@@ -1,5 +1,5 @@
 // Press motions to a file descriptor, page by page.
-use motion::Scale;
+use motion_floats::Scale;
 use reading::Job;
 use reading::ReadAnswer;
 ghost use Rattle.reading.specs.Steps.{JobOf};

@@ -1,6 +1,6 @@
 // Refusals on standard error: document 01's line, then a sentence.
 use libc::STDERR_FILENO;
-use motion::Scale;
+use motion_floats::Scale;
 use pgm::PictureFault;
 use refusal::Refusal;
 use tool_words::Command;
@@ -13,7 +13,7 @@ fn append_picture(page: &mut [u8], at: usize, input: &[u8], refusal: Refusal) ->
     requires { ⌜ at ≤ length (now page) ⌝ }
     ensures { λ r. ⌜ Counts r (now (page .exit)) ⌝ }
 {
-    if reasons::begins_as_job(input) {
+    if reasons_parts::begins_as_job(input) {
         return reasons::append_of_job(page, at, input, refusal);
     }
     reasons::append_of_scan(page, at, input, refusal)
@@ -76,7 +76,7 @@ pub fn say_fault(from: &[u8], fault: PictureFault) -> u32
     let mut page = io::large_buffer();
     let named = phrases::append(&mut page, 0, from);
     let used = phrases::append(&mut page, named, b": ");
-    let told = pgm::sentences::append_fault(&mut page, used, fault);
+    let told = pgm_sentences::append_fault(&mut page, used, fault);
     let end = phrases::append(&mut page, told, b"\n");
     io::write_all(STDERR_FILENO, &page[..end]);
     1

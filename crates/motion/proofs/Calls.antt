@@ -2,9 +2,8 @@
 use mathlib.Core.Path.{_≡_, refl, sym, ap, ap₂, _∙_}
 use mathlib.Core.Bool.{Bool, true, false, not}
 use mathlib.Core.List.{List}
-use Prim.Native.Nat.{ℕ, _+_, _-_, _≤_, _<_}
-use native.Mathlib.Omega.{arith}
-use borrow.Author.Tests.{lt-ltb, le-ltb, le-leb, eq-eqb, ne-eqb}
+use Prim.Native.Nat.{ℕ, _-_, _≤_, _<_}
+use borrow.Author.Tests.{lt-ltb, le-ltb, eq-eqb, ne-eqb}
 use lib.Dec.{eqb}
 use Rattle.geometry.specs.declared.Plunge.{Plunge}
 use Rattle.refusal.specs.declared.Refusal.{Refusal}
@@ -13,10 +12,11 @@ use Rattle.refusal.specs.declared.Verdict.the-variants.{Accepted, Refused}
 use Rattle.refusal.specs.Refusals.{firstMet}
 use Rattle.reading.specs.Reading.{IsReadable, fileTrials, total, nthPlunge}
 use Rattle.reading.proofs.Answers.{after-file, file-fault}
-use Rattle.motion.specs.declared.Scale.{Scale}
-use Rattle.motion.specs.declared.Motions.{Motions}
+use Rattle.motion_floats.specs.declared.Scale.{Scale}
+use Rattle.motion_floats.specs.declared.Motions.{Motions}
 use Rattle.motion.specs.declared.MotionAnswer.the-variants.{Moves, NoMoves}
-use Rattle.motion.specs.Motions.{scaleInRange, motionsOf, changes, motionVerdict, motionAnswer, motionsIn}
+use Rattle.motion_floats.specs.Floats.{scaleInRange, motionsOf}
+use Rattle.motion.specs.Motions.{changes, motionVerdict, motionAnswer, motionsIn}
 
 -- whether the electrode changes
 pub changes-first : (f : List ℕ) (i : ℕ) → i ≡ 0 → true ≡ changes f i

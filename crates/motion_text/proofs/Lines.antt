@@ -9,15 +9,15 @@ use lib.Ieee.{Float}
 use Rattle.fields.specs.Writing.{spliced}
 use Rattle.fields.proofs.Splice.{splice-nil}
 use Rattle.numerals.specs.Numerals.{Puts}
-use Rattle.motion.specs.declared.Scale.{Scale}
-use Rattle.motion.specs.declared.Motion.{Motion}
-use Rattle.motion.specs.declared.Motion.the-variants.{Change, Stay, Travel, Sink}
-use Rattle.motion.specs.declared.Motions.{Motions}
+use Rattle.motion_floats.specs.declared.Scale.{Scale}
+use Rattle.motion_floats.specs.declared.Motion.{Motion}
+use Rattle.motion_floats.specs.declared.Motion.the-variants.{Change, Stay, Travel, Sink}
+use Rattle.motion_floats.specs.declared.Motions.{Motions}
 use Rattle.motion.specs.declared.MotionAnswer.{MotionAnswer}
 use Rattle.motion.specs.declared.MotionAnswer.the-variants.{Moves, NoMoves}
 use Rattle.motion.specs.Motions.{motionsIn}
-use Rattle.decimal.specs.Text.{numberText, Put}
-use Rattle.decimal.proofs.Floats.{numberText-short}
+use Rattle.decimal_text.specs.Text.{numberText, Put}
+use Rattle.decimal_text.proofs.Floats.{numberText-short}
 use Rattle.phrases.proofs.Puts.{puts-puts}
 use Rattle.motion_text.specs.Lines.{changeWord, travelWord, sinkWord, millimetres, motionLine, motionLines, answerLines, linesAt, linesRoom}
 

@@ -4,15 +4,15 @@ use Prim.Native.Nat.{ℕ}
 use lib.Ieee.{Float}
 use Rattle.geometry.specs.Lists.{gather}
 use Rattle.reading.specs.Reading.{total}
-use Rattle.motion.specs.declared.Scale.{Scale}
-use Rattle.motion.specs.declared.Motion.{Motion}
-use Rattle.motion.specs.declared.Motion.the-variants.{Change, Stay, Travel, Sink}
-use Rattle.motion.specs.declared.Motions.{Motions}
+use Rattle.motion_floats.specs.declared.Scale.{Scale}
+use Rattle.motion_floats.specs.declared.Motion.{Motion}
+use Rattle.motion_floats.specs.declared.Motion.the-variants.{Change, Stay, Travel, Sink}
+use Rattle.motion_floats.specs.declared.Motions.{Motions}
 use Rattle.motion.specs.declared.MotionAnswer.{MotionAnswer}
 use Rattle.motion.specs.declared.MotionAnswer.the-variants.{Moves, NoMoves}
 use Rattle.motion.specs.Motions.{motionsIn}
 use Rattle.phrases.specs.Phrases.{ascii}
-use Rattle.decimal.specs.Text.{numberText}
+use Rattle.decimal_text.specs.Text.{numberText}
 
 abbrev pub changeWord : List ℕ
 changeWord = ascii "change"

@@ -1,8 +1,8 @@
 // Press motions as text, a line for each; put into slices.
-use motion::Motion;
 use motion::MotionAnswer;
-use motion::Motions;
-use motion::Scale;
+use motion_floats::Motion;
+use motion_floats::Motions;
+use motion_floats::Scale;
 use reading::Job;
 use text::Page;
 ghost use mathlib.Core.List.{[], _∷_, _++_};
@@ -24,7 +24,7 @@ fn put_millimetres(page: &mut [u8], at: usize, x: f64) -> usize
     ensures { λ r. ⌜ Puts (now (page .entry)) at (millimetres x) (now (page .exit)) r ⌝ }
 {
     page[at] = b' ';
-    decimal::put_number(x, page, at + 1)
+    decimal_text::put_number(x, page, at + 1)
 }
 
 // A word, millimetres, and the end of the line.

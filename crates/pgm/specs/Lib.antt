@@ -1,4 +1,2 @@
 pub mod Pgm
-pub mod Copies
 pub mod Steps
-pub mod Texts

@@ -1,16 +1,11 @@
-// PGM pictures, a byte for each sample, as scans, and scans as such pictures. Nothing is asked of a file: it is read, or its first fault is named.
-pub mod sentences;
-
+// PGM pictures, a byte for each sample. Nothing is asked of a file: it is read, or its first fault is named.
 ghost use mathlib.Core.Path.{_≡_};
 ghost use mathlib.Core.Bool.{true};
 ghost use Prim.Native.Nat.{_+_, _-_, _*_, _≤_, min};
 ghost use lib.ListN.{length};
 ghost use Rattle.decimal.specs.Decimal.{isDigit};
 ghost use Rattle.pgm.specs.Pgm.{isWhite, endsComment, inGap, inComment, largestNumber, gapEnd, numberAt, numberAfter, opens, headerIn, area, countWithin, firstFault, inRange, numberTrials, numbersTrials, headerTrials, rasterTrials, sampleTrials, pictureOf, pictureAnswer};
-ghost use Rattle.io.specs.Counts.{Counts};
-ghost use Rattle.phrases.specs.Phrases.{Appends};
-ghost use Rattle.pgm.specs.Copies.{scanOf, copyAnswer, copied, headerText, scanAnswer, scanWritten, fileAnswer, fileWritten, Copies};
-ghost use Rattle.pgm.specs.Steps.{firstOf, Sized, Lies};
+ghost use Rattle.pgm.specs.Steps.{firstOf, Sized};
 
 // A number of the header.
 pub enum Quantity {
@@ -47,14 +42,6 @@ pub enum PictureAnswer {
     Faulty(PictureFault),
 }
 
-// What copying gives: the number of bytes written, the number needed where the buffer is shorter, too few depths, or a picture's fault.
-pub enum CopyAnswer {
-    Copied(usize),
-    NoRoom(usize),
-    TooFew,
-    Unread(PictureFault),
-}
-
 // A number in the header: its first digit's place, its value, the place behind its digits. With no digits both places are one.
 pub struct Number {
     pub at: usize,
@@ -73,13 +60,13 @@ pub enum Check {
     Failed(PictureFault),
 }
 
-const LARGEST_SIDE: u32 = refusal::LARGEST_SIDE as u32;
+pub const LARGEST_SIDE: u32 = refusal::LARGEST_SIDE as u32;
 
 // Samples of 8 bits.
-const LARGEST_SAMPLE: u32 = 255;
+pub const LARGEST_SAMPLE: u32 = 255;
 
 // Any larger number counts as this.
-const LARGEST_NUMBER: u32 = 65536;
+pub const LARGEST_NUMBER: u32 = 65536;
 
 // ---- bytes
 
@@ -321,69 +308,4 @@ pub fn read_picture(file: &[u8]) -> PictureAnswer
         Check::Passed => PictureAnswer::Found(picture_of(header)),
         Check::Failed(fault) => PictureAnswer::Faulty(fault),
     }
-}
-
-// ---- pictures and scans
-
-// The scan of a picture at the start of a buffer.
-fn copy_scan(file: &[u8], kind: u8, picture: Picture, out: &mut [u8]) -> CopyAnswer
-    requires { ⌜ Lies (now file) picture ⌝ }
-    ensures { λ r. ⌜ Copies (copyAnswer (scanOf (now (file .entry)) kind picture) (now (out .entry)))
-        (copied (scanOf (now (file .entry)) kind picture) (now (out .entry))) (now (out .exit)) r ⌝ }
-{
-    let cells = (picture.height as usize) * (picture.width as usize);
-    let needed = 3 + cells;
-    if out.len() < needed {
-        return CopyAnswer::NoRoom(needed);
-    }
-    let at = picture.at;
-    let head = [kind, picture.width as u8, picture.height as u8];
-    let end = phrases::append(out, 0, &head);
-    phrases::append(out, end, &file[at..at + cells]);
-    CopyAnswer::Copied(needed)
-}
-
-// A picture's file as a scan, at the start of a buffer. Where the file has a fault or the buffer is too short, it stays as it was.
-pub fn put_scan(file: &[u8], kind: u8, out: &mut [u8]) -> CopyAnswer
-    ensures { λ r. ⌜ Copies (scanAnswer (now (file .entry)) kind (now (out .entry))) (scanWritten (now (file .entry)) kind (now (out .entry)))
-        (now (out .exit)) r ⌝ }
-{
-    let answer = read_picture(file);
-    match answer {
-        PictureAnswer::Found(picture) => copy_scan(file, kind, picture, out),
-        PictureAnswer::Faulty(fault) => CopyAnswer::Unread(fault),
-    }
-}
-
-fn header_length(width: u16, height: u16) -> usize
-    ensures { λ r. ⌜ r ≡ length (headerText width height) ⌝ }
-{
-    9 + numerals::digit_count(width as u64) + numerals::digit_count(height as u64)
-}
-
-fn append_header(page: &mut [u8], at: usize, width: u16, height: u16) -> usize
-    requires { ⌜ at ≤ length (now page) ⌝ }
-    ensures { λ r. ⌜ Appends (now (page .entry)) at (headerText width height) (now (page .exit)) r × Counts r (now (page .exit)) ⌝ }
-{
-    let a = phrases::append_phrase(page, at, b"P5\n", width as u64, b" ");
-    let b = phrases::append_number(page, a, height as u64);
-    phrases::append(page, b, b"\n255\n")
-}
-
-// Depths as a picture's file, at the start of a buffer. Where there are too few or the buffer is too short, it stays as it was.
-pub fn put_picture(width: u16, height: u16, depths: &[u8], out: &mut [u8]) -> CopyAnswer
-    ensures { λ r. ⌜ Copies (fileAnswer width height (now (depths .entry)) (now (out .entry)))
-        (fileWritten width height (now (depths .entry)) (now (out .entry))) (now (out .exit)) r ⌝ }
-{
-    let cells = (height as usize) * (width as usize);
-    if depths.len() < cells {
-        return CopyAnswer::TooFew;
-    }
-    let needed = header_length(width, height) + cells;
-    if out.len() < needed {
-        return CopyAnswer::NoRoom(needed);
-    }
-    let end = append_header(out, 0, width, height);
-    phrases::append(out, end, &depths[..cells]);
-    CopyAnswer::Copied(needed)
 }

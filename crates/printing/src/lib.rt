@@ -7,14 +7,14 @@ ghost use Rattle.reading.specs.Steps.{JobOf};
 // The line of a refusal; gives whether all of it was written.
 pub fn print_refusal(fd: i32, refusal: Refusal) -> bool {
     let mut line = [0u8; 64];
-    let used = text::put_refusal(&mut line, refusal);
+    let used = text_lines::put_refusal(&mut line, refusal);
     io::write_all(fd, &line[..used])
 }
 
 // The line of a tidy file.
 pub fn print_tidy(fd: i32) -> bool {
     let mut line = [0u8; 64];
-    let used = text::put_tidy(&mut line);
+    let used = text_lines::put_tidy(&mut line);
     io::write_all(fd, &line[..used])
 }
 

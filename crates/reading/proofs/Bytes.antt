@@ -18,7 +18,8 @@ use Rattle.geometry.specs.declared.MaybeKind.the-variants.{OfKind, NoKind}
 use Rattle.geometry.specs.Forms.{kindByte, kindOf}
 use Rattle.refusal.specs.Refusals.{badKind, isNone, kindNamed}
 use Rattle.fields.specs.Fields.{two, four, headField, plungeField, endField, headTag, headSize, headBytes, plungeBytes}
-use Rattle.reading.specs.Reading.{lengthAt, opens, headIn, isPlunge, plungeAt, isEnd, numberAt}
+use Rattle.reading_fields.specs.Openings.{lengthAt, opens, numberAt}
+use Rattle.reading.specs.Reading.{headIn, isPlunge, plungeAt, isEnd}
 
 -- ---- a field that opens
 

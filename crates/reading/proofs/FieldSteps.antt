@@ -15,7 +15,8 @@ use Rattle.refusal.specs.Refusals.{Trial, firstMet, largestSide, headOf}
 use Rattle.reading.specs.declared.Step.{Step}
 use Rattle.reading.specs.declared.Step.the-variants.{Onward, Ended, Fault}
 use Rattle.reading.specs.declared.ReadAnswer.the-variants.{Readable, Unreadable}
-use Rattle.reading.specs.Reading.{headIn, isEnd, isPlunge, plungeAt, numberAt, headTrials, plungeTrials, endTrials, fieldTrials, fieldsFrom, fileTrials, total, readAnswer, read}
+use Rattle.reading.specs.Reading.{headIn, isEnd, isPlunge, plungeAt, headTrials, plungeTrials, fieldTrials, fieldsFrom, fileTrials, total, readAnswer, read}
+use Rattle.reading_fields.specs.Openings.{numberAt, endTrials}
 use Rattle.reading.specs.Steps.{stepOf, stepAt}
 use Rattle.reading.proofs.Steps.{andThen, first-append, head-right, field-right, right-plunge, right-end}
 use Rattle.fields.specs.Fields.{headBytes, plungeBytes, endBytes, place}

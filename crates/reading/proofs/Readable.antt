@@ -22,9 +22,11 @@ use Rattle.fields.proofs.Encoding.{encoded-length, encoded-parts}
 use Rattle.reading.specs.declared.Step.{Step}
 use Rattle.reading.specs.declared.Step.the-variants.{Onward, Ended, Fault}
 use Rattle.reading.specs.declared.ReadAnswer.the-variants.{Readable}
-use Rattle.reading.specs.Reading.{headIn, isPlunge, isEnd, plungeAt, openTrials, plateTrials, headTrials, fieldsFrom, IsReadable, total, plungesUpTo, plungesIn, readAnswer, read}
+use Rattle.reading.specs.Reading.{headIn, isPlunge, isEnd, plungeAt, plateTrials, headTrials, fieldsFrom, IsReadable, total, plungesUpTo, plungesIn, readAnswer, read}
+use Rattle.reading_fields.specs.Openings.{openTrials}
 use Rattle.reading.specs.Steps.{stepAt}
-use Rattle.reading.proofs.Steps.{andThen, first-append, both-accepted, not-refused, open-whole, Plated, head-right, plunge-right, end-right, content-plunge, content-end, field-content}
+use Rattle.reading.proofs.Steps.{andThen, first-append, both-accepted, not-refused, Plated, head-right, plunge-right, content-plunge, content-end, field-content}
+use Rattle.reading_fields.proofs.Openings.{open-whole, end-right}
 use Rattle.reading.proofs.FieldSteps.{afterStep, fields-step, Passed, Closed, onward, ended, whole-total, file-first}
 use Rattle.reading.proofs.Bytes.{head-kind, head-bytes, plunge-bytes, end-bytes, number-below, written-plunge, written-end, written-head, kind-named}
 use Rattle.refusal.specs.Sides.{Sides}

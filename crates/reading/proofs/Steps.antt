@@ -5,7 +5,7 @@ use mathlib.Core.List.{List, [], _∷_, _++_}
 use Prim.Native.Nat.{ℕ, _+_, _-_, _*_, _≤_, _<_}
 use native.Mathlib.Omega.{arith}
 use native.Mathlib.Nat.{le-refl}
-use borrow.Author.Tests.{ltb-false, lt-ltb, le-ltb, leb-true, leb-false, eq-eqb, ne-eqb, eqb-true, eqb-false}
+use borrow.Author.Tests.{ltb-false, le-ltb, leb-true, leb-false, eq-eqb, ne-eqb, eqb-true, eqb-false}
 use lib.Dec.{leb, ltb, eqb}
 use lib.ListN.{length, getD}
 use Rattle.geometry.specs.declared.Head.{Head}
@@ -22,15 +22,15 @@ use Rattle.refusal.proofs.Refusals.{map-sound}
 use Rattle.reading.specs.declared.MaybePlunge.{MaybePlunge}
 use Rattle.reading.specs.declared.MaybePlunge.the-variants.{OfPlunge, NoPlunge}
 use Rattle.reading.specs.declared.Step.the-variants.{Onward, Ended, Fault}
-use Rattle.reading.specs.Reading.{opens, isEnd, isPlunge, plungeAt, numberAt, openTrials, plateTrials, headTrials, plungeTrials, endTrials, fieldTrials, headIn}
-use Rattle.reading.specs.Steps.{opensEither, stepOf, rightStep, contentStep, stepAt, plungeIf}
+use Rattle.reading_fields.specs.Openings.{opens, numberAt, openTrials, endTrials}
+use Rattle.reading.specs.Reading.{isEnd, isPlunge, plungeAt, plateTrials, headTrials, plungeTrials, fieldTrials, headIn}
+use Rattle.reading_fields.specs.Either.{opensEither}
+use Rattle.reading.specs.Steps.{stepOf, rightStep, contentStep, stepAt, plungeIf}
 use Rattle.fields.specs.Fields.{opening, headTag, headSize, headBytes, plungeSize, plungeBytes, place}
 use Rattle.refusal.specs.Sides.{Sides}
+use Rattle.reading_fields.proofs.Openings.{refused}
 
 -- ---- trials after trials
-
-abbrev pub refused : ℕ → ℕ → Verdict
-refused n at = Refused (record { number = n; place = at })
 
 -- the second verdict, if the first refuses nothing
 abbrev pub andThen : Verdict → Verdict → Verdict
@@ -59,25 +59,6 @@ cond-accepted true r v e = absurd (not-refused r e)
 cond-accepted false r v e = (refl, e)
 
 -- ---- the opening of a field
-
-module _ (f : List ℕ) (at : ℕ) (allowed : Bool) (size : ℕ) (h : at ≤ length f) where
-  pub open-short : length f - at < 3 → refused 6 at ≡ firstMet (openTrials f at allowed size)
-  open-short l = let g : length f < at + 3 = omega arith in rw (lt-ltb _ _ g)
-
-  pub open-wrong : 3 ≤ length f - at → (b : Bool) → b ≡ allowed → b ≡ false → refused 7 at ≡ firstMet (openTrials f at allowed size)
-  open-wrong l b e t = let g : at + 3 ≤ length f = omega arith in rw (le-ltb _ _ g, sym e ∙ t)
-
-  pub open-cut : 3 ≤ length f - at → (b : Bool) → b ≡ allowed → b ≡ true → length f - at - 3 < size → refused 6 at ≡ firstMet (openTrials f at allowed size)
-  open-cut l b e t k =
-      let g : at + 3 ≤ length f = omega arith in
-      let m : length f < at + (3 + size) = omega arith in
-      rw (le-ltb _ _ g, sym e ∙ t, lt-ltb _ _ m)
-
-  pub open-whole : 3 ≤ length f - at → (b : Bool) → b ≡ allowed → b ≡ true → size ≤ length f - at - 3 → Accepted ≡ firstMet (openTrials f at allowed size)
-  open-whole l b e t k =
-      let g : at + 3 ≤ length f = omega arith in
-      let m : at + (3 + size) ≤ length f = omega arith in
-      rw (le-ltb _ _ g, sym e ∙ t, le-ltb _ _ m)
 
 not-not : (b : Bool) → not b ≡ false → b ≡ true
 not-not true e = refl
@@ -203,22 +184,6 @@ module _ (p : Head) (f : List ℕ) (at : ℕ) where
   plunge-right e g =
       ap (λ b. cond b (refused 9 at) Accepted) (sym (ne-eqb _ _ g))
       ∙ ap (λ b. cond (not b) (refused 8 at) (cond (eqb (getD f (at + 6) 0) 0) (refused 9 at) Accepted)) (sym e)
-
--- ---- the end field
-
-module _ (f : List ℕ) (at n : ℕ) where
-  pub end-10 : (numberAt f at ≡ n → ⊥) → refused 10 at ≡ firstMet (endTrials f at n)
-  end-10 e = ap (λ b. cond (not b) (refused 10 at) (cond (ltb (at + plungeBytes) (length f)) (refused 11 (at + plungeBytes)) Accepted)) (sym (ne-eqb _ _ e))
-
-  pub end-11 : numberAt f at ≡ n → at + plungeBytes < length f → refused 11 (at + plungeBytes) ≡ firstMet (endTrials f at n)
-  end-11 e l =
-      ap (λ b. cond b (refused 11 (at + plungeBytes)) Accepted) (sym (lt-ltb _ _ l))
-      ∙ ap (λ b. cond (not b) (refused 10 at) (cond (ltb (at + plungeBytes) (length f)) (refused 11 (at + plungeBytes)) Accepted)) (sym (eq-eqb _ _ e))
-
-  pub end-right : numberAt f at ≡ n → length f ≤ at + plungeBytes → Accepted ≡ firstMet (endTrials f at n)
-  end-right e l =
-      ap (λ b. cond b (refused 11 (at + plungeBytes)) Accepted) (sym (le-ltb _ _ l))
-      ∙ ap (λ b. cond (not b) (refused 10 at) (cond (ltb (at + plungeBytes) (length f)) (refused 11 (at + plungeBytes)) Accepted)) (sym (eq-eqb _ _ e))
 
 -- ---- a field
 

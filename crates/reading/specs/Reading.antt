@@ -1,9 +1,9 @@
 -- To be believed: reading a plunge file (document 01, "Plunge file, drawing, tidying" and "Refusals in their order"): what is tried, field by field, and what the file says.
 use mathlib.Core.Path.{_≡_}
-use mathlib.Core.Bool.{Bool, true, false, cond, not}
+use mathlib.Core.Bool.{Bool, true, cond, not}
 use mathlib.Core.List.{List, [], _∷_, _++_}
-use Prim.Native.Nat.{ℕ, zero, suc, _+_, _-_, _*_, _/_}
-use lib.Dec.{ltb, eqb}
+use Prim.Native.Nat.{ℕ, zero, suc, _+_, _-_, _/_}
+use lib.Dec.{eqb}
 use lib.ListN.{length, getD}
 use Rattle.geometry.specs.declared.Head.{Head}
 use Rattle.geometry.specs.declared.Plunge.{Plunge}
@@ -12,19 +12,12 @@ use Rattle.geometry.specs.Plunges.{fitsPlate}
 use Rattle.refusal.specs.declared.Verdict.{Verdict}
 use Rattle.refusal.specs.declared.Verdict.the-variants.{Accepted, Refused}
 use Rattle.refusal.specs.Refusals.{Trial, trial, firstMet, badKind, badSides, headOf}
-use Rattle.fields.specs.Fields.{opening, headTag, headSize, plungeTag, plungeSize, plungeBytes, endTag, endSize, endBytes, place, fileLength}
+use Rattle.fields.specs.Fields.{headTag, headSize, plungeTag, plungeSize, plungeBytes, endTag, endSize, place, fileLength}
+use Rattle.reading_fields.specs.Openings.{opens, openTrials, endTrials}
 use Rattle.reading.specs.declared.ReadAnswer.{ReadAnswer}
 use Rattle.reading.specs.declared.ReadAnswer.the-variants.{Readable, Unreadable}
 
 -- ---- the bytes of a field that begins at a place
-
--- "a one-byte tag, a two-byte length (high byte first)"
-abbrev pub lengthAt : List ℕ → ℕ → ℕ
-lengthAt f at = 256 * getD f (at + 1) 0 + getD f (at + 2) 0
-
--- a field with this tag and this length begins at a place
-abbrev pub opens : ℕ → ℕ → List ℕ → ℕ → Bool
-opens tag size f at = cond (eqb (getD f at 0) tag) (eqb (lengthAt f at) size) false
 
 -- the head that the first field holds
 abbrev pub headIn : List ℕ → Head
@@ -38,19 +31,11 @@ abbrev pub plungeAt : List ℕ → ℕ → Plunge
 plungeAt f at =
     record { column = getD f (at + 3) 0; row = getD f (at + 4) 0; reach = record { 0 = getD f (at + 5) 0 }; depth = getD f (at + 6) 0 }
 
--- an end field, and the number in it
+-- an end field
 abbrev pub isEnd : List ℕ → ℕ → Bool
 isEnd = opens endTag endSize
 
-abbrev pub numberAt : List ℕ → ℕ → ℕ
-numberAt f at = 65536 * (256 * getD f (at + 3) 0 + getD f (at + 4) 0) + (256 * getD f (at + 5) 0 + getD f (at + 6) 0)
-
 -- ---- what is tried
-
--- "Per field: fewer than three bytes left is 6; tag or length not allowed here is 7; content cut is 6; then content"
-abbrev pub openTrials : List ℕ → ℕ → Bool → ℕ → List Trial
-openTrials f at allowed size =
-    trial (ltb (length f) (at + opening)) 6 at ∷ trial (not allowed) 7 at ∷ trial (ltb (length f) (at + (opening + size))) 6 at ∷ []
 
 -- "1: kind not 4 or 8", "2: width or height not 1 to 240"
 abbrev pub plateTrials : ℕ → ℕ → ℕ → List Trial
@@ -63,10 +48,6 @@ headTrials f = openTrials f 0 (opens headTag headSize f 0) headSize ++ plateTria
 -- "8: ball leaves the plate", "9: depth 0"
 abbrev pub plungeTrials : Head → List ℕ → ℕ → List Trial
 plungeTrials p f at = trial (not (fitsPlate p (plungeAt f at))) 8 at ∷ trial (eqb (plungeAt f at .depth) 0) 9 at ∷ []
-
--- "10: end number is not the number of plunges", "11: bytes after the end field"
-abbrev pub endTrials : List ℕ → ℕ → ℕ → List Trial
-endTrials f at n = trial (not (eqb (numberAt f at) n)) 10 at ∷ trial (ltb (at + endBytes) (length f)) 11 (at + endBytes) ∷ []
 
 -- a field after the head, with n plunges before it: a plunge's or the end
 abbrev pub fieldTrials : Head → List ℕ → ℕ → List Trial

@@ -1,6 +1,6 @@
 -- Serves proofs: what one field after the head tells the reader.
 use mathlib.Core.Path.{_≡_}
-use mathlib.Core.Bool.{Bool, true, cond}
+use mathlib.Core.Bool.{cond}
 use mathlib.Core.List.{List}
 use Prim.Native.Nat.{ℕ, _+_}
 use lib.Dec.{leb}
@@ -16,11 +16,8 @@ use Rattle.fields.specs.Fields.{place}
 use Rattle.reading.specs.declared.Job.{Job}
 use Rattle.reading.specs.declared.Step.{Step}
 use Rattle.reading.specs.declared.Step.the-variants.{Onward, Ended, Fault}
-use Rattle.reading.specs.Reading.{opens, isEnd, plungeTrials, endTrials, fieldTrials, plungeAt, IsReadable, headIn, total}
-
--- a field with one of two tags begins at a place
-abbrev pub opensEither : ℕ → ℕ → ℕ → List ℕ → ℕ → Bool
-opensEither tag other size f at = cond (opens tag size f at) true (opens other size f at)
+use Rattle.reading_fields.specs.Openings.{endTrials}
+use Rattle.reading.specs.Reading.{isEnd, plungeTrials, fieldTrials, plungeAt, IsReadable, headIn, total}
 
 -- a step that stands if nothing is refused
 abbrev pub stepOf : Step → Verdict → Step

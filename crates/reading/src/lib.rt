@@ -9,9 +9,9 @@ ghost use mathlib.Core.Path.{_≡_};
 ghost use Prim.Native.Nat.{suc, _+_, _≤_, _<_};
 ghost use lib.ListN.{length};
 ghost use Rattle.refusal.specs.Refusals.{largestSide, firstMet};
-ghost use Rattle.fields.specs.Fields.{opening, headBytes, plungeBytes, endBytes, place};
-ghost use Rattle.reading.specs.Reading.{opens, headIn, numberAt, openTrials, plateTrials, headTrials, plungeTrials, endTrials, fieldsFrom, readAnswer, read, nthPlunge, total};
-ghost use Rattle.reading.specs.Steps.{opensEither, stepOf, contentStep, stepAt, plungeIf, JobOf};
+ghost use Rattle.fields.specs.Fields.{headBytes, plungeBytes, place};
+ghost use Rattle.reading.specs.Reading.{headIn, plateTrials, headTrials, plungeTrials, fieldsFrom, readAnswer, read, nthPlunge, total};
+ghost use Rattle.reading.specs.Steps.{stepOf, contentStep, stepAt, plungeIf, JobOf};
 
 // What a readable file says: its plate, and how many plunges follow.
 pub struct Job {
@@ -45,48 +45,6 @@ fn side(byte: u8) -> u16
     byte as u16
 }
 
-// ---- the opening of a field
-
-// Whether a field with this tag and this length begins at a place.
-fn opens(file: &[u8], at: usize, tag: u8, size: usize) -> bool
-    requires { ⌜ at + opening ≤ length (now file) ⌝ }
-    ensures { λ r. ⌜ r ≡ opens tag size (now (file .entry)) at ⌝ }
-{
-    if file[at] == tag {
-        return 256 * numbers::wide(file[at + 1]) + numbers::wide(file[at + 2]) == size;
-    }
-    false
-}
-
-// Whether it begins with one of two tags.
-fn opens_either(file: &[u8], at: usize, tag: u8, other: u8, size: usize) -> bool
-    requires { ⌜ at + opening ≤ length (now file) ⌝ }
-    ensures { λ r. ⌜ r ≡ opensEither tag other size (now (file .entry)) at ⌝ }
-{
-    if opens(file, at, tag, size) {
-        return true;
-    }
-    opens(file, at, other, size)
-}
-
-// Refusals 6, 7 and 6 in their order: three bytes, an allowed tag with its length, the whole content.
-fn check_open(file: &[u8], at: usize, tag: u8, other: u8, size: usize) -> Verdict
-    requires { ⌜ at ≤ length (now file) ⌝ }
-    ensures { λ r. ⌜ r ≡ firstMet (openTrials (now (file .entry)) at (opensEither tag other size (now (file .entry)) at) size) ⌝ }
-{
-    let left = file.len() - at;
-    if left < fields::OPENING {
-        return refusal::refuse(6, at);
-    }
-    if opens_either(file, at, tag, other, size) {
-        if left - fields::OPENING < size {
-            return refusal::refuse(6, at);
-        }
-        return Verdict::Accepted;
-    }
-    refusal::refuse(7, at)
-}
-
 // ---- the head
 
 // Refusals 1 and 2 in their order.
@@ -106,7 +64,7 @@ fn check_plate(kind: u8, width: u16, height: u16) -> Verdict
 fn check_head(file: &[u8]) -> Verdict
     ensures { λ r. ⌜ r ≡ firstMet (headTrials (now (file .entry))) ⌝ }
 {
-    let opening = check_open(
+    let opening = reading_fields::check_open(
         file,
         0,
         fields::HEAD_TAG,
@@ -176,33 +134,6 @@ fn check_plunge(file: &[u8], head: Head, at: usize) -> Verdict
     }
 }
 
-// ---- the end field
-
-// The number that the end field at a place holds.
-fn number_at(file: &[u8], at: usize) -> usize
-    requires { ⌜ at + endBytes ≤ length (now file) ⌝ }
-    ensures { λ r. ⌜ r ≡ numberAt (now (file .entry)) at ⌝ }
-{
-    let high = 256 * numbers::wide(file[at + 3]) + numbers::wide(file[at + 4]);
-    let low = 256 * numbers::wide(file[at + 5]) + numbers::wide(file[at + 6]);
-    65536 * high + low
-}
-
-// Refusals 10 and 11 in their order.
-fn check_end(file: &[u8], at: usize, n: usize) -> Verdict
-    requires { ⌜ at + endBytes ≤ length (now file) ⌝ }
-    ensures { λ r. ⌜ r ≡ firstMet (endTrials (now (file .entry)) at n) ⌝ }
-{
-    if number_at(file, at) == n {
-        let next = at + fields::END_BYTES;
-        if next < file.len() {
-            return refusal::refuse(11, next);
-        }
-        return Verdict::Accepted;
-    }
-    refusal::refuse(10, at)
-}
-
 // ---- the file
 
 // What a field tells whose content has this verdict.
@@ -220,8 +151,8 @@ fn content_at(file: &[u8], head: Head, at: usize, n: usize) -> Step
     requires { ⌜ (at + plungeBytes ≤ length (now file)) × (head .width ≤ largestSide) ⌝ }
     ensures { λ r. ⌜ r ≡ contentStep head (now (file .entry)) at n ⌝ }
 {
-    if opens(file, at, fields::END_TAG, fields::END_SIZE as usize) {
-        return after(Step::Ended, check_end(file, at, n));
+    if reading_fields::opens(file, at, fields::END_TAG, fields::END_SIZE as usize) {
+        return after(Step::Ended, reading_fields::check_end(file, at, n));
     }
     after(Step::Onward, check_plunge(file, head, at))
 }
@@ -232,7 +163,7 @@ fn field_at(file: &[u8], head: Head, n: usize) -> Step
     ensures { λ r. ⌜ r ≡ stepAt head (now (file .entry)) n ⌝ }
 {
     let at = fields::place(head, n);
-    let opening = check_open(
+    let opening = reading_fields::check_open(
         file,
         at,
         fields::END_TAG,

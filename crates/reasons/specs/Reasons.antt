@@ -1,31 +1,17 @@
 -- To be believed: what jobtool says behind the line of a refusal: what is wrong with a scan, a job file or a scale, and where.
-use mathlib.Core.Bool.{Bool, true, false, cond}
+use mathlib.Core.Bool.{cond}
 use mathlib.Core.List.{List, [], _++_}
-use Prim.Native.Nat.{ℕ, _-_, _*_, _/_}
+use Prim.Native.Nat.{ℕ, _-_, _*_}
 use lib.Dec.{eqb}
 use lib.ListN.{length, getD}
 use Rattle.refusal.specs.declared.Refusal.{Refusal}
-use Rattle.refusal.specs.Refusals.{largestSide}
-use Rattle.fields.specs.Fields.{headBytes, plungeBytes}
-use Rattle.reading.specs.Reading.{lengthAt, numberAt}
 use Rattle.sink.specs.Sink.{whole}
-use Rattle.motion.specs.declared.Scale.{Scale}
-use Rattle.motion.specs.Motions.{within, sixteenth}
-use Rattle.numerals.specs.Numerals.{numeral}
+use Rattle.motion_floats.specs.declared.Scale.{Scale}
+use Rattle.motion_floats.specs.Floats.{within, sixteenth}
 use Rattle.phrases.specs.Phrases.{ascii, phrase}
-use Rattle.text.specs.Text.{refusalLine}
-
--- ---- faults of a plate and of an answer
-
-abbrev pub kindReason : ℕ → List ℕ
-kindReason kind = phrase (ascii "kind ") kind (ascii " is not 4 or 8")
-
-abbrev pub sidesReason : ℕ → ℕ → List ℕ
-sidesReason width height =
-    phrase (ascii "width ") width (ascii " and height ") ++ phrase [] height (ascii ": sides are 1 to ") ++ numeral largestSide
-
-abbrev pub longReason : ℕ → List ℕ
-longReason bytes = phrase (ascii "the answer has ") bytes (ascii " bytes, more than jobtool holds")
+use Rattle.text_lines.specs.Text.{refusalLine}
+use Rattle.reasons_parts.specs.Parts.{kindReason, sidesReason, longReason, beginsAsJob, beginsAsPicture, beginsAsScan}
+use Rattle.reasons_fields.specs.Fields.{endsReason, fieldReason, plungeReason, countReason, surplusReason, untidyReason}
 
 -- ---- a scan
 
@@ -41,34 +27,6 @@ scanFault s number place =
 
 -- ---- a job file
 
--- the number of the plunge whose field holds a byte
-abbrev pub plungeNumber : ℕ → ℕ
-plungeNumber place = (place - headBytes) / plungeBytes
-
-abbrev pub endsReason : List ℕ → ℕ → List ℕ
-endsReason f place =
-    cond (eqb place (length f)) (phrase (ascii "the file ends at byte ") place (ascii " without an end field"))
-    (phrase (ascii "the file ends inside the field at byte ") place [])
-
-abbrev pub fieldReason : List ℕ → ℕ → List ℕ
-fieldReason f place =
-    phrase (ascii "the field at byte ") place (ascii " has tag ") ++ phrase [] (getD f place 0) (ascii " and length ")
-    ++ phrase [] (lengthAt f place) (ascii ", which is not allowed there")
-
-abbrev pub plungeReason : ℕ → List ℕ → List ℕ
-plungeReason place fault = phrase (ascii "plunge number ") (plungeNumber place) (ascii " at byte ") ++ phrase [] place fault
-
-abbrev pub countReason : List ℕ → ℕ → List ℕ
-countReason f place =
-    phrase (ascii "the end field at byte ") place (ascii " says ") ++ phrase [] (numberAt f place) (ascii " plunges, the file has ")
-    ++ phrase [] (plungeNumber place) []
-
-abbrev pub surplusReason : ℕ → List ℕ
-surplusReason place = phrase (ascii "the file goes on behind its end field, from byte ") place (ascii " on")
-
-abbrev pub untidyReason : ℕ → List ℕ
-untidyReason place = phrase (ascii "not tidy: the tidied file is unlike this one from byte ") place (ascii " on")
-
 -- a refusal of a job file: a fault in reading, 12, or 5 of its tidied list
 abbrev pub jobFault : List ℕ → ℕ → ℕ → List ℕ
 jobFault f number place =
@@ -82,16 +40,6 @@ jobFault f number place =
     (cond (eqb number 11) (surplusReason place) (cond (eqb number 12) (untidyReason place) (longReason place)))))))))
 
 -- ---- another sort of file than the command takes
-
--- how the three sorts begin: a job file with 01 00 03, a picture with 'P5', a scan with its kind
-abbrev pub beginsAsJob : List ℕ → Bool
-beginsAsJob s = cond (eqb (getD s 0 0) 1) (cond (eqb (getD s 1 0) 0) (eqb (getD s 2 0) 3) false) false
-
-abbrev pub beginsAsPicture : List ℕ → Bool
-beginsAsPicture s = cond (eqb (getD s 0 0) 80) (eqb (getD s 1 0) 53) false
-
-abbrev pub beginsAsScan : List ℕ → Bool
-beginsAsScan s = cond (eqb (getD s 0 0) 4) true (eqb (getD s 0 0) 8)
 
 abbrev pub emptyReason : List ℕ
 emptyReason = ascii "it is empty"

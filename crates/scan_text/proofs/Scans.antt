@@ -35,8 +35,8 @@ use Rattle.listing_plunges.proofs.Plunges.{listing-few}
 use Rattle.jobs.specs.Calls.{listVerdict, ListCall}
 use Rattle.scan.specs.Scan.{byteIn, depths}
 use Rattle.text.specs.declared.Page.{Page}
-use Rattle.text.specs.Text.{refusalLine, listText, answerText}
-use Rattle.text.specs.Pages.{lineAt, lineCount, lineRoom, PageOf}
+use Rattle.text_lines.specs.Text.{refusalLine, listText, answerText, lineRoom}
+use Rattle.text.specs.Pages.{lineAt, lineCount, PageOf}
 use Rattle.text.proofs.Pages.{page-whole}
 use Rattle.scan_text.specs.Program.{fileBuffer, mostCells, textRoom, plateIn, plungesOf, listLength, scanVerdict, plungesText}
 use Rattle.scan_text.specs.Listed.{ListedFile}

@@ -16,7 +16,7 @@ use Rattle.refusal.specs.Refusals.{trial, firstMet, short, badKind, badSides, h
 use Rattle.fields.specs.Fields.{fileLength}
 use Rattle.jobs.specs.Calls.{listed}
 use Rattle.scan.specs.Scan.{byteIn, depths}
-use Rattle.text.specs.Text.{answerText}
+use Rattle.text_lines.specs.Text.{answerText}
 use Rattle.scan_text.specs.Program.{fileBuffer, mostCells, mostScan, plungesText}
 use Rattle.scan_text.proofs.Scans.{refused, cells-most}
 

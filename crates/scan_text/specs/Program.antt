@@ -11,8 +11,7 @@ use Rattle.refusal.specs.Refusals.{trial, firstMet, mapTrials, headOf, largestS
 use Rattle.fields.specs.Fields.{fileLength}
 use Rattle.jobs.specs.Calls.{listed}
 use Rattle.scan.specs.Scan.{byteIn, depths}
-use Rattle.text.specs.Text.{answerText}
-use Rattle.text.specs.Pages.{lineRoom}
+use Rattle.text_lines.specs.Text.{answerText, lineRoom}
 
 -- "Its file buffer is 65,536 bytes."
 abbrev pub fileBuffer : ℕ

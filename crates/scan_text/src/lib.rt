@@ -6,7 +6,7 @@ ghost use Prim.Native.Nat.{_≤_};
 ghost use lib.ListN.{length};
 ghost use Rattle.io.specs.Counts.{Counts};
 ghost use Rattle.numerals.specs.Numerals.{Puts};
-ghost use Rattle.text.specs.Text.{listText};
+ghost use Rattle.text_lines.specs.Text.{listText};
 ghost use Rattle.scan_text.specs.Program.{fileBuffer, mostCells, textRoom, plateIn, plungesOf, plungesText};
 ghost use Rattle.scan_text.specs.Listed.{ListedFile};
 
@@ -66,9 +66,9 @@ pub fn put_text(text: &mut [u8], scan: &[u8]) -> usize
     let mut file = file_buffer();
     let mut a = cells();
     let mut b = cells();
-    let answer = scan::list_scan(scan, &mut file, &mut a, &mut b);
+    let answer = scan_listing::list_scan(scan, &mut file, &mut a, &mut b);
     match answer {
-        ListAnswer::Unlisted(refusal) => text::put_refusal(text, refusal),
+        ListAnswer::Unlisted(refusal) => text_lines::put_refusal(text, refusal),
         ListAnswer::Listed(extent) => {
             let bytes = extent.bytes;
             put_list(text, scan, &file[..bytes], extent.plunges)

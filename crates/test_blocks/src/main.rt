@@ -154,7 +154,7 @@ fn run_check(file: &[u8]) {
     let mut b = cells_room();
     let mut c = cells_room();
     print_text(b"check: ");
-    let verdict = jobs::check(file, &mut a, &mut b, &mut c);
+    let verdict = job_check::check(file, &mut a, &mut b, &mut c);
     match verdict {
         Verdict::Accepted => print_text(b"tidy\n"),
         Verdict::Refused(refusal) => print_refusal(refusal),

@@ -1,5 +1,5 @@
 // Runs the calls on plunge files as records describe them, and prints what comes back.
-use jobs::check;
+use job_check::check;
 use jobs::draw;
 use jobs::list;
 use jobs::tidy;

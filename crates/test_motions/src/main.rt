@@ -1,9 +1,9 @@
 // Runs the motion call on files, plunge numbers and scales that its input describes, and prints what comes back, floats to the last bit.
 use libc::STDIN_FILENO;
-use motion::Motion;
 use motion::MotionAnswer;
-use motion::Motions;
-use motion::Scale;
+use motion_floats::Motion;
+use motion_floats::Motions;
+use motion_floats::Scale;
 use scan::byte_in;
 use test_io::print_text;
 use test_io::two_words;

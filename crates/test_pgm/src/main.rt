@@ -1,8 +1,8 @@
-// Runs the calls of `pgm` on the records of its input, and prints each answer, what it left of the output, and the sentence of a fault.
+// Runs the calls of `pgm`, `pgm_copies` and `pgm_sentences` on the records of its input, and prints each answer, what it left of the output, and the sentence of a fault.
 use libc::STDIN_FILENO;
-use pgm::CopyAnswer;
 use pgm::PictureAnswer;
 use pgm::PictureFault;
+use pgm_copies::CopyAnswer;
 use scan::byte_in;
 use test_io::print_next;
 use test_io::print_text;
@@ -53,7 +53,7 @@ fn fill_file(file: &mut [u8], s: &[u8]) {
 
 fn print_fault(fault: PictureFault) {
     let mut page = [0u8; 256];
-    let end = pgm::sentences::append_fault(&mut page, 0, fault);
+    let end = pgm_sentences::append_fault(&mut page, 0, fault);
     print_text(&page[..end]);
     print_text(b"\n");
 }
@@ -106,14 +106,14 @@ fn print_answer(answer: CopyAnswer, out: &[u8]) {
 
 fn run_scan(s: &[u8], file: &[u8], out: &mut [u8]) {
     print_picture(pgm::read_picture(file));
-    let answer = pgm::put_scan(file, byte_in(s, 2), out);
+    let answer = pgm_copies::put_scan(file, byte_in(s, 2), out);
     print_answer(answer, out);
 }
 
 fn run_picture(s: &[u8], depths: &[u8], out: &mut [u8]) {
     let width = word(byte_in(s, 1), byte_in(s, 2));
     let height = word(byte_in(s, 3), byte_in(s, 4));
-    let answer = pgm::put_picture(width, height, depths, out);
+    let answer = pgm_copies::put_picture(width, height, depths, out);
     print_answer(answer, out);
 }
 

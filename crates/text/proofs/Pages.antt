@@ -19,10 +19,10 @@ use Rattle.numerals.specs.Numerals.{Puts}
 use Rattle.reading.specs.Reading.{IsReadable, headIn, total, nthPlunge, plungesIn}
 use Rattle.reading.proofs.Readable.{length-plungesIn}
 use Rattle.text.specs.declared.Page.{Page}
-use Rattle.text.specs.Text.{plateLine, plungeLine, plungeLines, totalLine, listText}
-use Rattle.text.specs.Pages.{lineAt, lineCount, lineRoom, PageOf}
+use Rattle.text_lines.specs.Text.{plateLine, plungeLine, plungeLines, totalLine, listText, lineRoom}
+use Rattle.text.specs.Pages.{lineAt, lineCount, PageOf}
 use Rattle.phrases.proofs.Puts.{puts-puts, puts-length}
-use Rattle.text.proofs.Lines.{plate-room, plunge-room, total-room}
+use Rattle.text_lines.proofs.Lines.{plate-room, plunge-room, total-room}
 
 -- ---- lines by their numbers
 

@@ -9,7 +9,7 @@ use Rattle.geometry.specs.Lists.{gather}
 use Rattle.fields.specs.Writing.{spliced}
 use Rattle.reading.specs.Reading.{headIn, total, nthPlunge}
 use Rattle.text.specs.declared.Page.{Page}
-use Rattle.text.specs.Text.{plateLine, plungeLine, totalLine}
+use Rattle.text_lines.specs.Text.{plateLine, plungeLine, totalLine}
 
 -- the lines of a file's text, counted from 0: the plate's, one for each plunge, and the total's
 unfoldable pub lineAt : List ℕ → ℕ → List ℕ
@@ -17,10 +17,6 @@ lineAt f i = cond (eqb i 0) (plateLine (headIn f)) (cond (leb i (total f)) (plun
 
 abbrev pub lineCount : List ℕ → ℕ
 lineCount f = total f + 2
-
--- room for any line, in bytes
-abbrev pub lineRoom : ℕ
-lineRoom = 32
 
 -- a page of a text in so many parts: it holds the parts from one on to before the next, in their order and nothing else, and all that are left if the next
 -- would have had room

@@ -10,5 +10,4 @@ pub mod Order
 pub mod Drawing
 pub mod Canonical
 pub mod Levels
-pub mod Answers
-pub mod Blocks
+pub mod Vectors

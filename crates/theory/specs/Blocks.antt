@@ -77,7 +77,7 @@ abbrev flat8 : Block
 flat8 = block Square 3 3 (q 1 1 1 5 ∷ q 0 2 0 1 ∷ []) (about 5 5) (q 1 1 1 5 ∷ []) (about 1 2) (about 0 2) (about 1 1) (about 0 5) (about 0 5)
 
 -- "The same, kind 4: the four corners at reach 0, then (1,1,1,5)."
-abbrev flat4 : Block
+abbrev pub flat4 : Block
 flat4 =
     block Diamond 3 3 (q 1 1 1 5 ∷ q 2 2 0 5 ∷ q 0 2 0 5 ∷ q 1 0 0 5 ∷ q 2 0 0 5 ∷ q 0 0 0 5 ∷ []) (about 5 5)
     (q 0 0 0 5 ∷ q 2 0 0 5 ∷ q 0 2 0 5 ∷ q 2 2 0 5 ∷ q 1 1 1 5 ∷ []) (about 1 2) (cornered 1 2) (about 1 1) (cornered 5 5) (cornered 5 5)

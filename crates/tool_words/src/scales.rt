@@ -1,7 +1,7 @@
 // The scale, from the first three plain words in decimal.
 use crate::Command;
 use decimal::Decimal;
-use motion::Scale;
+use motion_floats::Scale;
 
 // A scale, and whether it could be read.
 pub struct Given {

@@ -1,5 +1,5 @@
 -- `haru_clearance` tells what the inner call answers to narrowed numbers, and by its law that is the answer to the numbers given.
-use Rattle.haruseopda.specs.Told.{ofCell}
+use Rattle.c_answers.specs.Told.{ofCell}
 use mathlib.Core.Path.{ap, _∙_}
 use Rattle.haruseopda.proofs.Promises.{cell-promise}
 use borrow.Author.Needs.{needs}

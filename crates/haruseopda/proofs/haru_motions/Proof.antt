@@ -1,11 +1,13 @@
--- `haru_motions` tells what the inner call answers.
+-- `haru_motions` tells what the inner call answers to the scale that was given.
 use mathlib.Core.Path.{ap, _∙_}
-use Rattle.haruseopda.specs.Jobs.{ofMotions}
+use Rattle.motion.specs.Motions.{motionsIn}
+use Rattle.c_answers.specs.Jobs.{ofMotions}
 use borrow.Author.Needs.{needs}
 use Rattle.haruseopda.proofs.haru_motions.Statement.{statement}
 use Rattle.haruseopda.proofs.haru_motions.Tie as tie
-use Rattle.haruseopda.proofs.of_motions.Reads as of-motions-reads
-use Rattle.motion.proofs.plunge_motions.Reads as plunge-motions-reads
+
+scale-of-requires : tie.Need-scale-of-requires
+scale-of-requires c κs = search needs
 
 plunge-motions-requires : tie.Need-plunge-motions-requires
 plunge-motions-requires c κs = search needs
@@ -14,7 +16,10 @@ of-motions-requires : tie.Need-of-motions-requires
 of-motions-requires c κs = search needs
 
 returns : tie.Need-returns
-returns c = c .of-motions .ensures ∙ ap ofMotions (c .before .plunge-motions .ensures)
+returns c =
+    let at-scale-of = c .before .before in
+    let given = at-scale-of .before .before .args in
+    c .of-motions .ensures ∙ ap ofMotions (c .before .plunge-motions .ensures ∙ ap (motionsIn (given .file .now) (given .i)) (at-scale-of .scale-of .ensures))
 
 pub haru-motions-spec : {M : Type 1} → statement M
-haru-motions-spec = tie.close (tie.spec plunge-motions-requires of-motions-requires returns)
+haru-motions-spec = tie.close (tie.spec scale-of-requires plunge-motions-requires of-motions-requires returns)

@@ -1,10 +1,10 @@
 -- `haru_read` tells what the inner call answers.
 use mathlib.Core.Path.{ap, _∙_}
-use Rattle.haruseopda.specs.Jobs.{ofRead}
+use Rattle.c_answers.specs.Jobs.{ofRead}
 use borrow.Author.Needs.{needs}
 use Rattle.haruseopda.proofs.haru_read.Statement.{statement}
 use Rattle.haruseopda.proofs.haru_read.Tie as tie
-use Rattle.haruseopda.proofs.of_read.Reads as of-read-reads
+use Rattle.c_answers.proofs.of_read.Reads as of-read-reads
 use Rattle.reading.proofs.read.Reads as read-reads
 
 read-requires : tie.Need-read-requires

@@ -1,5 +1,5 @@
 -- `haru_volume` tells what the inner call answers to narrowed numbers, and by its law that is the answer to the numbers given.
-use Rattle.haruseopda.specs.Told.{ofVolume}
+use Rattle.c_answers.specs.Told.{ofVolume}
 use mathlib.Core.Path.{ap, _∙_}
 use Rattle.haruseopda.proofs.Promises.{volume-promise}
 use borrow.Author.Needs.{needs}

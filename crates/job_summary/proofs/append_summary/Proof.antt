@@ -1,6 +1,6 @@
 -- `append_summary` puts the lines of the list, then those of its relief.
 use Rattle.job_summary.proofs.Lines.{summary-appended}
-use Rattle.job_summary.proofs.Relief.{drawn-first}
+use Rattle.job_relief.proofs.Relief.{drawn-first}
 use borrow.Author.Needs.{needs}
 use Rattle.job_summary.proofs.append_summary.Statement.{statement}
 use Rattle.job_summary.proofs.append_summary.Tie as tie

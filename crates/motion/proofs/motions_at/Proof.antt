@@ -1,14 +1,14 @@
 -- `motions_at` tries the scale, then the number, then gives the motions.
 use mathlib.Core.Path.{sym, ap₂, _∙_}
 use native.Mathlib.Omega.{arith}
-use Rattle.motion.specs.Motions.{motionsOf}
+use Rattle.motion_floats.specs.Floats.{motionsOf}
 use Rattle.motion.proofs.Calls.{not-true, not-false, scale-refused, number-refused, moves}
 use borrow.Author.Needs.{needs}
 use Rattle.motion.proofs.motions_at.Statement.{statement}
 use Rattle.motion.proofs.motions_at.Tie as tie
-use Rattle.motion.proofs.in_range.Reads as in-range-reads
+use Rattle.motion_floats.proofs.in_range.Reads as in-range-reads
 use Rattle.motion.proofs.is_changed.Reads as is-changed-reads
-use Rattle.motion.proofs.motions_of.Reads as motions-of-reads
+use Rattle.motion_floats.proofs.motions_of.Reads as motions-of-reads
 use Rattle.reading.proofs.nth_plunge.Reads as nth-plunge-reads
 
 in-range-requires : tie.Need-in-range-requires

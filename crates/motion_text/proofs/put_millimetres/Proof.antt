@@ -7,7 +7,7 @@ use Rattle.motion_text.proofs.put_millimetres.Lts as lts
 use Rattle.phrases.proofs.Puts.{puts-length}
 use Rattle.motion_text.specs.Lines.{millimetres}
 use Rattle.motion_text.proofs.Lines.{millimetres-put}
-use Rattle.decimal.proofs.put_number.Reads as put-number-reads
+use Rattle.decimal_text.proofs.put_number.Reads as put-number-reads
 
 slice-write-page : tie.Need-slice-write-page
 slice-write-page c = search needs

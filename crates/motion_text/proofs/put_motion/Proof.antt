@@ -8,7 +8,7 @@ use mathlib.Core.Path.{sym, subst}
 use Prim.Native.Nat.{_+_, _≤_}
 use lib.ListN.{length}
 use Rattle.numerals.specs.Numerals.{Puts}
-use Rattle.motion.specs.declared.Motion.{Motion}
+use Rattle.motion_floats.specs.declared.Motion.{Motion}
 use Rattle.motion_text.specs.Lines.{motionLine}
 use Rattle.motion_text.proofs.put_one.Reads as put-one-reads
 use Rattle.motion_text.proofs.put_travel.Reads as put-travel-reads

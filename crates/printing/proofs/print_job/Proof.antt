@@ -8,7 +8,8 @@ use mathlib.Core.Path.{_≡_}
 use Prim.Native.Nat.{_-_, _≤_}
 use native.Mathlib.Omega.{arith}
 use lib.ListN.{length}
-use Rattle.text.specs.Pages.{lineAt, lineCount, lineRoom}
+use Rattle.text.specs.Pages.{lineAt, lineCount}
+use Rattle.text_lines.specs.Text.{lineRoom}
 use Rattle.text.proofs.Pages.{page-goes-on}
 use Rattle.io.proofs.large_buffer.Reads as large-buffer-reads
 use Rattle.io.proofs.write_all.Reads as write-all-reads

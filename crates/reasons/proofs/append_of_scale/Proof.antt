@@ -1,7 +1,7 @@
 -- `append_of_scale` tries the ranges of the half pitch and of the column offset.
 use borrow.Author.Needs.{needs}
 use mathlib.Core.Path.{sym, _∙_}
-use Rattle.motion.proofs.Literals.{literal-sixteenth}
+use Rattle.motion_floats.proofs.Literals.{literal-sixteenth}
 use Rattle.sink.proofs.Literals.{literal-4, literal-0, literal-1000}
 use Rattle.reasons.specs.Reasons.{ofScale}
 use Rattle.reasons.proofs.append_of_scale.Statement.{statement}

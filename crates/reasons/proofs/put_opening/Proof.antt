@@ -4,14 +4,14 @@ use Prim.Native.Nat.{_≤_}
 use native.Mathlib.Omega.{arith}
 use lib.ListN.{length}
 use Rattle.phrases.proofs.Appends.{puts-appends, appended-then}
-use Rattle.text.proofs.Lines.{refusal-room}
-use Rattle.text.specs.Text.{refusalLine}
+use Rattle.text_lines.proofs.Lines.{refusal-room}
+use Rattle.text_lines.specs.Text.{refusalLine}
 use Rattle.reasons.proofs.put_opening.Statement.{statement}
 use Rattle.reasons.proofs.put_opening.Tie as tie
 use Rattle.reasons.proofs.put_opening.Reads as reads
 use Rattle.reasons.proofs.put_opening.Lts as lts
 use Rattle.phrases.proofs.append.Reads as append-reads
-use Rattle.text.proofs.put_refusal.Reads as put-refusal-reads
+use Rattle.text_lines.proofs.put_refusal.Reads as put-refusal-reads
 
 put-refusal-requires : tie.Need-put-refusal-requires
 put-refusal-requires c κs = search needs

@@ -1,5 +1,5 @@
 -- `print_summary` lends buffers that hold the largest plate.
-use Rattle.job_summary.proofs.Relief.{workable}
+use Rattle.job_relief.proofs.Relief.{workable}
 use native.Mathlib.Omega.{arith}
 use borrow.Author.Needs.{needs}
 use Rattle.test_summary.proofs.print_summary.Statement.{statement}

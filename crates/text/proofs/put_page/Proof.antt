@@ -7,7 +7,8 @@ use Rattle.text.proofs.put_page.Lts as lts
 use mathlib.Core.Path.{_∙_}
 use native.Mathlib.Omega.{arith}
 use Prim.Native.Nat.{_+_, _-_}
-use Rattle.text.specs.Pages.{lineAt, lineCount, lineRoom}
+use Rattle.text.specs.Pages.{lineAt, lineCount}
+use Rattle.text_lines.specs.Text.{lineRoom}
 use Rattle.phrases.proofs.Puts.{counts}
 use Rattle.text.proofs.Pages.{Filled, filled-none, filled-more, filled-page}
 use Rattle.text.proofs.put_line.Reads as put-line-reads

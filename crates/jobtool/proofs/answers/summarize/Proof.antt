@@ -1,7 +1,7 @@
 -- `summarize` sees that each work buffer holds the largest plate.
 use borrow.Author.Needs.{needs}
 use native.Mathlib.Omega.{arith}
-use Rattle.job_summary.proofs.Relief.{workable}
+use Rattle.job_relief.proofs.Relief.{workable}
 use Rattle.jobtool.proofs.answers.summarize.Statement.{statement}
 use Rattle.jobtool.proofs.answers.summarize.Tie as tie
 use Rattle.jobtool.proofs.answers.summarize.Reads as reads

@@ -1,0 +1,28 @@
+-- `of_cell` tells a clearance in numbers.
+use mathlib.Core.Path.{sym, ap}
+use Rattle.c_answers.specs.Told.{ofCell}
+use borrow.Author.Needs.{needs}
+use Rattle.c_answers.proofs.of_cell.Statement.{statement}
+use Rattle.c_answers.proofs.of_cell.Tie as tie
+
+enum-known-answer : tie.Need-enum-known-answer
+enum-known-answer c = search needs
+
+cast-t5 : tie.Need-cast-t5
+cast-t5 c = search needs
+
+enum-known-answer-2 : tie.Need-enum-known-answer-2
+enum-known-answer-2 c = search needs
+
+cast-t6 : tie.Need-cast-t6
+cast-t6 c = search needs
+
+returns : tie.Need-returns
+returns c = sym (ap ofCell (c .before .before .answer .given .1))
+
+returns-2 : tie.Need-returns-2
+returns-2 c = sym (ap ofCell (c .before .before .answer2 .given .1))
+
+pub of-cell-spec : {M : Type 1} → statement M
+of-cell-spec =
+    tie.close (tie.spec enum-known-answer cast-t5 enum-known-answer-2 cast-t6 returns returns-2)

@@ -1,0 +1,9 @@
+pub mod Shortest
+pub mod Nearest
+pub mod Sizes
+pub mod Back
+pub mod Ranges
+pub mod Texts
+pub mod Floats
+pub mod RoundTrip
+pub mod Examples

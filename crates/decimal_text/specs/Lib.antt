@@ -1,0 +1,4 @@
+pub mod Digits
+pub mod Printing
+pub mod Shortest
+pub mod Text

@@ -1,0 +1,3 @@
+pub mod ByReach
+pub mod Depths
+pub mod Walk
