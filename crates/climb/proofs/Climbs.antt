@@ -3,7 +3,7 @@ use mathlib.Core.Path.{_≡_, refl, sym, ap, ap₂, _∙_, subst}
 use mathlib.Core.Logic.{_⊎_, inl, inr}
 use mathlib.Core.Bool.{Bool, true, false, cond}
 use mathlib.Core.List.{List, [], _∷_, _++_, map, map-append, append-assoc, append-nil}
-use Prim.Native.Nat.{ℕ, zero, suc, _+_, _*_, _-_, _%_, _/_, _≤_, _<_, max}
+use Prim.Native.Nat.{ℕ, _+_, _*_, _-_, _≤_, _<_}
 use native.Mathlib.Omega.{arith}
 use native.Mathlib.Decide.{decLe}
 use native.Mathlib.Nat.{mul-le-mul}
@@ -26,17 +26,15 @@ use Rattle.buffers.specs.Fill.{Filled, PlateOnly}
 use Rattle.bounding_box.specs.declared.Bounds.{Bounds}
 use Rattle.bounding_box.specs.Boxes.{Within, BareOutside, Cropped}
 use Rattle.erosion_series.proofs.Pairs.{kept-none, kept-more, kept-copy, held-start}
-use Rattle.residue_marks.specs.Marks.{markPlaces}
 use Rattle.residue_series.specs.declared.Stand.{Stand}
 use Rattle.residue_series.specs.declared.Run.{Run}
 use Rattle.residue_series.specs.Plunges.{listedReach, soFar, plungeAt, onMark, marksTo}
-use Rattle.residue_series.specs.Stands.{Midway, Level, Standing, listedTo, left, leftAt, runListed, Startable, Started, Taken, TakenOf}
+use Rattle.residue_series.specs.Stands.{Midway, Level, listedTo, left, leftAt, runListed, Started, Taken, TakenOf}
 use Rattle.residue_series.proofs.Plunges.{erosion-north, row-above, so-far-next}
 use Rattle.residue_series.proofs.Stands.{standing-rest}
 use Rattle.climb.specs.declared.Region.{Region}
 use Rattle.climb.specs.declared.Climb.{Climb}
 use Rattle.climb.specs.declared.Found.{Found}
-use Rattle.climb.specs.declared.Step.{Step}
 use Rattle.climb.specs.Regions.{moved, RegionOf}
 use Rattle.climb.specs.Climbs.{plungeOf, foundPlunges, FoundMarks, RegionIn, listedWith, Climbing, leftOf, Settleable, CroppedRegion}
 use Rattle.climb.specs.Climbs.{Settled, Begun, Turnable, Turning, StepOf, Narrowed, Stepped}

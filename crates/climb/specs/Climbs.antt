@@ -1,6 +1,6 @@
 -- Serves proofs: the plunges of a run, where a climb is and what it has listed, and what each step asks and leaves.
 use mathlib.Core.Path.{_≡_}
-use mathlib.Core.Bool.{Bool, true}
+use mathlib.Core.Bool.{true}
 use mathlib.Core.List.{List, [], _++_, map}
 use Prim.Native.Nat.{ℕ, _+_, _-_, _*_, _%_, _/_, _≤_, _<_}
 use lib.ListN.{length}

@@ -13,7 +13,7 @@ ghost use Rattle.refusal.specs.Sides.{Sides};
 ghost use Rattle.erosion_series.specs.Pairs.{SeriesBuffers};
 ghost use Rattle.climb.specs.Climbs.{Settleable, CroppedRegion, Settled, Begun, Turnable, Turning, ClimbingSome, Narrowed, Underway, Stepped};
 
-// A region is taken anew after so many residues, and one more for so many columns: about as many as have cost a residue in bare columns.
+// A region is taken anew after so many residues, and one more for so many columns: by then bare columns cost about what that costs.
 const RESIDUES: usize = 12;
 
 const COLUMNS: usize = 24;

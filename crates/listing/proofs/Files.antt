@@ -3,15 +3,13 @@ use mathlib.Core.Path.{_≡_, sym, ap, ap₂, _∙_}
 use mathlib.Core.List.{List, _++_, append-assoc}
 use Prim.Native.Nat.{ℕ, suc, _+_, _*_, _-_, _/_, _≤_, _<_}
 use native.Mathlib.Omega.{arith}
-use native.Mathlib.Nat.{mul-le-mul}
 use borrow.Author.Tests.{lt-ltb, le-ltb}
 use lib.ListN.{length, getD, set, take, drop, length-append, length-drop}
 use lib.Seq.{take-append-seam, drop-at, length-take-le, getD-drop, paste, paste-suc}
 use Rattle.geometry.specs.declared.Head.{Head}
 use Rattle.geometry.specs.declared.Plunge.{Plunge}
-use Rattle.geometry.specs.Plate.{area}
 use Rattle.theory.specs.Listing.{listing}
-use Rattle.refusal.specs.Refusals.{largestSide, largestErosion}
+use Rattle.refusal.specs.Refusals.{largestErosion}
 use Rattle.fields.specs.Fields.{headField, plungeFields, endField, fileLength, encoded, headBytes, plungeBytes, place}
 use Rattle.fields.specs.Writing.{spliced}
 use Rattle.fields.proofs.Splice.{splice-start, splice-splice}

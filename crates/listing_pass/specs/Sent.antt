@@ -1,7 +1,7 @@
 -- Serves proofs: a pass over bytes that a file is made of: they are written to an output, compared with a file, or staged.
 use mathlib.Core.Path.{_≡_}
 use mathlib.Core.List.{List}
-use Prim.Native.Nat.{ℕ, _+_, _≤_, _<_}
+use Prim.Native.Nat.{ℕ, _+_, _≤_}
 use lib.Dec.{eqb}
 use lib.ListN.{length, drop}
 use Rattle.geometry.specs.Lists.{common}

@@ -1,15 +1,14 @@
 -- Laws of a whole listing: what was sent so far, one run more, and where it ends.
 use mathlib.Core.Path.{_≡_, refl, sym, ap, _∙_, subst}
-use mathlib.Core.Bool.{Bool, true, false}
+use mathlib.Core.Bool.{true, false}
 use mathlib.Core.List.{List, [], _++_}
-use Prim.Native.Nat.{ℕ, _+_, _*_, _≤_, _<_}
+use Prim.Native.Nat.{ℕ, _+_, _*_, _≤_}
 use native.Mathlib.Omega.{arith}
 use lib.ListN.{length, length-append}
 use Rattle.geometry.specs.declared.Head.{Head}
 use Rattle.geometry.specs.declared.Plunge.{Plunge}
 use Rattle.theory.specs.Listing.{listing}
 use Rattle.refusal.specs.Refusals.{largestErosion}
-use Rattle.refusal.specs.Sides.{Sides}
 use Rattle.buffers.specs.Fill.{PlateOnly}
 use Rattle.erosion_series.proofs.Pairs.{kept-none, kept-more}
 use Rattle.fields.specs.Fields.{plungeFields, headBytes, plungeBytes}

@@ -20,6 +20,7 @@ use Rattle.fields.proofs.Encoding.{plungeFields-append, plungeFields-length}
 use Rattle.residue_marks.specs.Marks.{onPlace, markedPlaces, Noted}
 use Rattle.residue_marks.proofs.Marking.{tally-few}
 use Rattle.residue_series.specs.Plunges.{onMark, marksTo}
+use Rattle.climb.specs.declared.Region.{Region}
 use Rattle.climb.specs.declared.Found.{Found}
 use Rattle.climb.specs.Climbs.{FoundMarks}
 use Rattle.residue_series.proofs.Plunges.{tally-length}
@@ -30,6 +31,13 @@ use Rattle.listing_pass.proofs.Common.{common-le}
 use Rattle.listing_pass.proofs.Passes.{sent-none, sent-written, sent-staged}
 use Rattle.listing_plunges.specs.Runs.{PlaceOf}
 
+-- a region of a plate has no more cells than a plate may have
+region-few : (r : Region) → r .column + r .head .width ≤ largestSide → r .row + r .head .height ≤ largestSide → area (r .head) ≤ largestSide * largestSide
+region-few r a b =
+    let h : r .head .height ≤ largestSide = omega arith in
+    let w : r .head .width ≤ largestSide = omega arith in
+    mul-le-mul h w
+
 -- the column and the row of a place
 module _ (f : Found) (n : ℕ) (o : PlaceOf f n) where
   pub place-small : (n % f .region .head .width + f .region .column < largestSide) × (n / f .region .head .width + f .region .row < largestSide)
@@ -39,21 +47,11 @@ module _ (f : Found) (n : ℕ) (o : PlaceOf f n) where
       (omega (arith, mod-lt n (o .wide)), omega (arith, div-lt-iff-lt-mul (o .wide) .1 (o .within)))
 
   pub place-few : n < largestSide * largestSide
-  place-few =
-      let a = o .across in
-      let b = o .down in
-      let h : f .region .head .height ≤ largestSide = omega arith in
-      let w : f .region .head .width ≤ largestSide = omega arith in
-      omega (arith, o .within, mul-le-mul h w)
+  place-few = omega (arith, o .within, region-few (f .region) (o .across) (o .down))
 
--- a run's region has no more cells than a plate may have
+-- a run has no more places than a plate may have
 pub found-few : (f : Found) (marks : List ℕ) → FoundMarks f marks → area (f .region .head) ≤ largestSide * largestSide
-found-few f marks m =
-    let a = m .across in
-    let b = m .down in
-    let h : f .region .head .height ≤ largestSide = omega arith in
-    let w : f .region .head .width ≤ largestSide = omega arith in
-    mul-le-mul h w
+found-few f marks m = region-few (f .region) (m .across) (m .down)
 
 -- ---- plunges at noted places
 

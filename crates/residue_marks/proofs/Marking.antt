@@ -17,7 +17,7 @@ use lib.Seq.{getD-set-same, getD-set-other, take-set-le, take-suc-set}
 use Rattle.geometry.specs.declared.Kind.{Kind}
 use Rattle.geometry.specs.declared.Kind.the-variants.{Diamond, Square}
 use Rattle.geometry.specs.declared.Head.{Head}
-use Rattle.geometry.specs.Plane.{Cell, cell, west, east, north, south}
+use Rattle.geometry.specs.Plane.{cell, west, east, north, south}
 use Rattle.geometry.specs.Plate.{area, at}
 use Rattle.theory.proofs.Plate.{at-cell}
 use Rattle.theory.proofs.Lists.{gather-split, gather-more, gather-nil, gather-same}

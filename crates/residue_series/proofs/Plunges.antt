@@ -1,5 +1,5 @@
 -- Laws of the listing by places: what marks stand for, how many they are, rows where nothing is listed, and the listing so far.
-use mathlib.Core.Path.{_≡_, refl, sym, ap, ap₂, _∙_, fun-ext}
+use mathlib.Core.Path.{_≡_, refl, sym, ap, ap₂, _∙_}
 use mathlib.Core.Logic.{_⊎_, inl, inr}
 use mathlib.Core.Bool.{Bool, true, false, cond}
 use mathlib.Core.List.{List, [], _∷_, _++_, append-assoc, append-nil}
@@ -20,13 +20,12 @@ use Rattle.geometry.specs.declared.Plunge.{Plunge}
 use Rattle.geometry.specs.Lists.{gather}
 use Rattle.geometry.specs.Plane.{Cell, cell, gap, dist}
 use Rattle.geometry.specs.Plate.{On, area, at}
-use Rattle.theory.specs.Erosion.{erosion, highestNear, residue}
+use Rattle.theory.specs.Erosion.{erosion, residue}
 use Rattle.theory.specs.Listing.{listedAt, listing}
 use Rattle.theory.proofs.Distance.{gap-self}
 use Rattle.theory.proofs.Plate.{on-or-off}
 use Rattle.theory.proofs.Erosion.{erosion-is, erosion-off}
 use Rattle.theory.proofs.Listing.{listing-stops}
-use Rattle.theory.proofs.Lists.{gather-same}
 use Rattle.residue_marks.specs.Marks.{markOf, counted, tally}
 use Rattle.residue_series.specs.Plunges.{listedReach, placeListed, soFar, onMark, marksTo}
 use Rattle.residue_series.proofs.Gather.{gather-on, gather-turn, gather-none, gather-stops, gather-flat}

@@ -24,15 +24,14 @@ use Rattle.theory.proofs.Plate.{on-or-off, at-cell}
 use Rattle.theory.proofs.Lists.{gather-same}
 use Rattle.theory.proofs.Erosion.{erosion-zero, erosion-step, erosion-off}
 use Rattle.refusal.specs.Refusals.{largestSide, largestErosion}
-use Rattle.buffers.specs.Fill.{Filled, PlateOnly}
+use Rattle.buffers.specs.Fill.{PlateOnly}
 use Rattle.buffers.specs.Margin.{Margin}
-use Rattle.refusal.specs.Sides.{Sides}
 use Rattle.erosion_step.specs.Steps.{Stepped}
 use Rattle.erosion_series.specs.Pairs.{HoldsErosion}
 use Rattle.erosion_series.proofs.Pairs.{mod-cases, held-margin, held-next, kept-none}
 use Rattle.residue_marks.specs.declared.Places.{Places}
 use Rattle.residue_marks.specs.declared.Swept.{Swept}
-use Rattle.residue_marks.specs.Marks.{markPlaces, placeCell, lowNear, highNear, markOf, marksOf, SweepBuffers, Sweep}
+use Rattle.residue_marks.specs.Marks.{markPlaces, placeCell, lowNear, highNear, marksOf, SweepBuffers, Sweep}
 use Rattle.residue_series.specs.declared.Stand.{Stand}
 use Rattle.residue_series.specs.Plunges.{listedReach, placeListed, soFar, plungeAt, onMark, marksTo}
 use Rattle.residue_series.specs.Stands.{Midway, PairMidway, Level, Standing, listedTo, PairToSweep, PairSweep}

@@ -7,7 +7,6 @@ use lib.ListN.{getD}
 use Rattle.geometry.specs.declared.Head.{Head}
 use Rattle.geometry.specs.declared.Plunge.{Plunge}
 use Rattle.geometry.specs.Lists.{gather}
-use Rattle.geometry.specs.Plate.{area}
 use Rattle.theory.specs.Listing.{listedAt}
 
 -- the plunges of the listing that have reach r; the one at place n of a plate

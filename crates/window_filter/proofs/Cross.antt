@@ -11,10 +11,9 @@ use Rattle.geometry.specs.declared.Kind.{Kind}
 use Rattle.geometry.specs.declared.Kind.the-variants.{Diamond}
 use Rattle.geometry.specs.declared.Head.{Head}
 use Rattle.window.specs.Windows.{windowMax}
-use Rattle.buffers.specs.Fill.{Filled}
 use Rattle.buffers.specs.Margin.{Margin}
 use Rattle.buffers.proofs.Fill.{filled-none, filled-more, filled-end, filled-as}
-use Rattle.row_arrays.specs.Rows.{margin, Row}
+use Rattle.row_arrays.specs.Rows.{margin}
 use Rattle.row_arrays.proofs.Rows.{zeros, row-zeros, margins-filled}
 use Rattle.window_filter.specs.declared.Leaf.the-variants as v
 use Rattle.window_filter.specs.Filter.{leaf, windowRows, rowOf, FilteredRow}

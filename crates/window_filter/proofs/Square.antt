@@ -14,7 +14,7 @@ use Rattle.geometry.specs.Plate.{at}
 use Rattle.window.specs.Windows.{windowOf, windowMax}
 use Rattle.window.specs.Places.{before}
 use Rattle.window.proofs.Windows.{window-is, of-max}
-use Rattle.buffers.specs.Fill.{Filled, Mapped}
+use Rattle.buffers.specs.Fill.{Mapped}
 use Rattle.buffers.specs.Margin.{Margin}
 use Rattle.buffers.proofs.Fill.{filled-none, filled-more, filled-end}
 use Rattle.row_arrays.specs.Rows.{margin, rowPlaces}

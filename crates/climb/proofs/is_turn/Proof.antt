@@ -2,7 +2,7 @@ use native.Mathlib.Omega.{arith}
 use native.Mathlib.Nat.{mul-le-mul, mul-le-mul-right, sub-le}
 use borrow.Author.Tests.{not-false}
 use mathlib.Core.Bool.{true≢false}
-use mathlib.Core.Path.{_≡_, sym}
+use mathlib.Core.Path.{sym}
 use borrow.Author.Needs.{needs}
 use Rattle.climb.proofs.is_turn.Statement.{statement}
 use Rattle.climb.proofs.is_turn.Tie as tie

@@ -1,5 +1,5 @@
 use Rattle.climb.proofs.Climbs.{climbing-turnable, climbing-numbers, turn-asks, turn-step, turn-less, same-step}
-use borrow.Author.Tests.{not-true, not-false}
+use borrow.Author.Tests.{not-false}
 use native.Mathlib.Omega.{arith}
 use borrow.Author.Needs.{needs}
 use Rattle.climb.proofs.narrow.Statement.{statement}

@@ -19,14 +19,14 @@ next-run-requires c κs =
 -- src/lib.rt:166:26
 add-reach-of : tie.Need-add-reach-of
 add-reach-of c =
-    let at-start =
-    c .before .before .before .before .before .before .before .before .before .before .before .before .before .before .before in
+    let at-next-run = c .before .before .before .before .before .before in
+    let at-start = at-next-run .before .before .before .before .before .before .before .before .before in
     omega (arith, climbing-numbers _ _ _ _ _ _ (at-start .pre .climbs .climbs) (at-start .pre .more))
 
 reach-of-requires : tie.Need-reach-of-requires
 reach-of-requires c κs =
-    let at-start =
-    c .before .before .before .before .before .before .before .before .before .before .before .before .before .before .before in
+    let at-next-run = c .before .before .before .before .before .before in
+    let at-start = at-next-run .before .before .before .before .before .before .before .before .before in
     let n = climbing-numbers _ _ _ _ _ _ (at-start .pre .climbs .climbs) (at-start .pre .more) in
     (omega (arith, n .0), n .1)
 

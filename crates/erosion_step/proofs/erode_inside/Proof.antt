@@ -23,10 +23,14 @@ mul-to : tie.Need-mul-to
 mul-to c = search needs
 
 sub-to : tie.Need-sub-to
-sub-to c = let at-start = c .before .before .before .before in omega (arith, room at-start)
+sub-to c =
+    let at-start = c .before .before .before .before in
+    omega (arith, room at-start)
 
 sub-to-2 : tie.Need-sub-to-2
-sub-to-2 c = let at-start = c .before .before .before .before in omega (arith, room at-start)
+sub-to-2 c =
+    let at-start = c .before .before .before .before in
+    omega (arith, room at-start)
 
 zero-run-requires : tie.Need-zero-run-requires
 zero-run-requires c κs =

@@ -41,10 +41,14 @@ append-found-requires : tie.Need-append-found-requires Inv-loop μ-loop
 append-found-requires c κs = c .before .before .loop .inv .counted .0
 
 add-reach : tie.Need-add-reach Inv-loop μ-loop
-add-reach c = let at-loop-test = c .before .before .before .before in omega (arith, at-loop-test .loop-test .taken)
+add-reach c =
+    let at-loop-test = c .before .before .before .before in
+    omega (arith, at-loop-test .loop-test .taken)
 
 loop-less : tie.Need-loop-less Inv-loop μ-loop
-loop-less c = let at-loop-test = c .before .before .before .before in omega (arith, at-loop-test .loop-test .taken)
+loop-less c =
+    let at-loop-test = c .before .before .before .before in
+    omega (arith, at-loop-test .loop-test .taken)
 
 loop-again : tie.Need-loop-again Inv-loop μ-loop
 loop-again c =

@@ -2,7 +2,7 @@
 use Rattle.listing_plunges.proofs.Marks.{Put, found-few, noted-below, put-none, put-same, put-room, put-more, put-end}
 use Rattle.climb.specs.Climbs.{plungeOf}
 use native.Mathlib.Omega.{arith}
-use Prim.Native.Nat.{_+_, _-_, _≤_}
+use Prim.Native.Nat.{_-_, _≤_}
 use mathlib.Core.Path.{_∙_}
 use Rattle.listing_plunges.proofs.put_marks.Statement.{statement}
 use Rattle.listing_plunges.proofs.put_marks.Tie as tie

@@ -1,5 +1,4 @@
 -- `send_run` by the kind of pass: `run-written`, `run-staged` and `sent-compared` say what each has sent.
-use native.Mathlib.Omega.{arith}
 use Rattle.listing_pass.proofs.Passes.{sent-compared}
 use Rattle.climb.specs.Climbs.{foundPlunges}
 use Rattle.listing_plunges.proofs.Marks.{none-sent, run-written, run-staged}

@@ -1,7 +1,5 @@
 -- `stage_marks` counts first: `staged-short` where there is no room.
 use native.Mathlib.Omega.{arith}
-use mathlib.Core.Path.{ap}
-use Prim.Native.Nat.{_+_}
 use Rattle.climb.specs.Climbs.{plungeOf, foundPlunges}
 use Rattle.listing_plunges.proofs.Marks.{marks-few, staged-short}
 use borrow.Author.Needs.{needs}

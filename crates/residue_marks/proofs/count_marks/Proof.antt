@@ -1,6 +1,6 @@
 -- `count_marks` counts stretch after stretch: the invariant is the tally up to the place reached.
 use mathlib.Core.Path.{_≡_, ap}
-use Prim.Native.Nat.{_+_, _-_, _≤_}
+use Prim.Native.Nat.{_-_, _≤_}
 use native.Mathlib.Omega.{arith}
 use borrow.Author.Needs.{needs}
 use Rattle.residue_marks.specs.Marks.{tally}
