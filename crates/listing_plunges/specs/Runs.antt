@@ -1,14 +1,16 @@
 -- Serves proofs: what making and sending the plunges of a run ask.
+use mathlib.Core.Path.{_≡_}
 use mathlib.Core.List.{List}
 use Prim.Native.Nat.{ℕ, _+_, _*_, _≤_, _<_}
-use lib.ListN.{length}
+use lib.ListN.{length, getD}
+use Rattle.geometry.specs.declared.Plunge.{Plunge}
 use Rattle.geometry.specs.Plate.{area}
 use Rattle.refusal.specs.Refusals.{largestSide}
 use Rattle.fields.specs.Fields.{plungeBytes}
 use Rattle.fields.specs.Lengths.{IsLength}
 use Rattle.residue_marks.specs.Marks.{markPlaces}
 use Rattle.climb.specs.declared.Found.{Found}
-use Rattle.climb.specs.Climbs.{foundPlunges, FoundMarks}
+use Rattle.climb.specs.Climbs.{plungeOf, foundPlunges, FoundMarks}
 use Rattle.listing_pass.specs.declared.Pass.{Pass}
 use Rattle.listing_pass.specs.Sent.{Room}
 
@@ -18,6 +20,17 @@ pub record PlaceOf (f : Found) (n : ℕ) : Type 0 where
   pub across : f .region .column + f .region .head .width ≤ largestSide
   pub down : f .region .row + f .region .head .height ≤ largestSide
   pub within : n < area (f .region .head)
+
+-- the plunge of place i of a run, by an array of its marks
+abbrev pub notedPlunge : Found → List ℕ → ℕ → Plunge
+notedPlunge f marks i = plungeOf f (f .places .start + i) (getD marks i 0)
+
+-- one of the places of a run that are noted in an array
+pub record NotedAt (f : Found) (marks noted : List ℕ) (j : ℕ) : Type 0 where
+  pub marked : FoundMarks f marks
+  pub size : length noted ≡ markPlaces
+  pub here : j < markPlaces
+  pub below : getD noted j 0 < f .places .number
 
 -- what sending them asks: a place that leaves room for all of them, in the output too where they are written
 pub record ToSend (pass : Pass) (f : Found) (marks : List ℕ) (at : ℕ) (out : List ℕ) : Type 0 where

@@ -6,23 +6,19 @@ use listing_pass::Pass;
 use listing_pass::Progress;
 ghost use mathlib.Core.Path.{_≡_};
 ghost use Prim.Native.Nat.{_+_, _*_, _≤_, _<_};
-ghost use lib.ListN.{length};
+ghost use lib.ListN.{length, getD, drop};
 ghost use Rattle.theory.specs.Listing.{listing};
+ghost use Rattle.geometry.specs.Lists.{common};
 ghost use Rattle.refusal.specs.Refusals.{largestSide, largestErosion};
 ghost use Rattle.buffers.specs.Fill.{PlateOnly};
-ghost use Rattle.fields.specs.Fields.{headBytes, plungeBytes, plungeFields};
+ghost use Rattle.fields.specs.Fields.{headBytes, plungeBytes, plungeField, plungeFields};
 ghost use Rattle.fields.specs.Lengths.{IsLength};
 ghost use Rattle.fields.specs.Writing.{spliced};
 ghost use Rattle.residue_marks.specs.Marks.{markPlaces};
 ghost use Rattle.climb.specs.Climbs.{plungeOf, foundPlunges, FoundMarks};
 ghost use Rattle.listing_pass.specs.Sent.{Compared, Staged, Sent, Room};
 ghost use Rattle.listing_plunges.specs.Listable.{Listable};
-ghost use Rattle.listing_plunges.specs.Runs.{PlaceOf, ToSend};
-
-// The bytes of a run's fields, at most; and of the fields of a run with few.
-const RUN_BYTES: usize = fields::PLUNGE_BYTES * residue_marks::MARK_PLACES;
-
-const FEW_BYTES: usize = 1792;
+ghost use Rattle.listing_plunges.specs.Runs.{PlaceOf, NotedAt, notedPlunge, ToSend};
 
 // The plunge of a run's place: place n is column n % width of row n / width of its region.
 fn plunge_at(found: Found, n: usize, depth: u8) -> Plunge
@@ -43,6 +39,20 @@ fn plunge_at(found: Found, n: usize, depth: u8) -> Plunge
     }
 }
 
+// The plunge of a noted place of a run.
+fn noted_plunge(
+    found: Found,
+    marks: &[u8; residue_marks::MARK_PLACES],
+    noted: &[u16; residue_marks::MARK_PLACES],
+    j: usize,
+) -> Plunge
+    requires { ⌜ NotedAt found (now marks) (now noted) j ⌝ }
+    ensures { λ r. ⌜ (r ≡ notedPlunge found (now (marks .entry)) (getD (now (noted .entry)) j 0)) × (r .column < largestSide) × (r .row < largestSide) ⌝ }
+{
+    let i = noted[j] as usize;
+    plunge_at(found, found.places.start + i, marks[i])
+}
+
 // Writes the fields of a run's plunges from a place on, once their places are noted in an array. Returns the place behind them.
 fn put_marks(
     found: Found,
@@ -57,14 +67,11 @@ fn put_marks(
         × (now (out .exit) ≡ spliced (now (out .entry)) at (plungeFields (foundPlunges found (now (marks .entry)))))
         × (length (now (noted .exit)) ≡ markPlaces) ⌝ }
 {
-    let start = found.places.start;
-    let number = found.places.number;
-    let count = residue_marks::note_marks(marks, number, noted);
+    let count = residue_marks::note_marks(marks, found.places.number, noted);
     let mut place = at;
     let mut j = 0;
     while j < count {
-        let i = noted[j] as usize;
-        let q = plunge_at(found, start + i, marks[i]);
+        let q = noted_plunge(found, marks, noted, j);
         fields::put_plunge(out, place, q);
         place += fields::PLUNGE_BYTES;
         j += 1;
@@ -80,29 +87,17 @@ fn field_bytes(found: Found, marks: &[u8; residue_marks::MARK_PLACES]) -> usize
     fields::PLUNGE_BYTES * residue_marks::count_marks(marks, found.places.number)
 }
 
-// Compares the fields of a run's plunges, made in a buffer, with a file from a place on.
-fn compare_in(
-    found: Found,
-    marks: &[u8; residue_marks::MARK_PLACES],
-    noted: &mut [u16; residue_marks::MARK_PLACES],
-    bytes: &mut [u8],
-    file: &[u8],
-    at: usize,
-) -> Progress
-    requires { ⌜ FoundMarks found (now marks) × IsLength (at + plungeBytes * markPlaces)
-        × (plungeBytes * length (foundPlunges found (now marks)) ≤ length (now bytes)) × (length (now noted) ≡ markPlaces) ⌝ }
-    ensures { λ r. ⌜ Compared (now (file .entry)) at (plungeFields (foundPlunges found (now (marks .entry)))) r
-        × (length (now (noted .exit)) ≡ markPlaces) ⌝ }
+// How many bytes of a plunge's field stand in a file from a place on.
+fn compare_plunge(q: Plunge, file: &[u8], at: usize) -> usize
+    requires { ⌜ IsLength (at + plungeBytes) × (q .column < largestSide) × (q .row < largestSide) ⌝ }
+    ensures { λ r. ⌜ r ≡ common (drop at (now (file .entry))) (plungeField q) ⌝ }
 {
-    let length = put_marks(found, marks, noted, bytes, 0);
-    let n = listing_pass::common_run(file, at, &bytes[..length]);
-    Progress {
-        at: at + n,
-        like: n == length,
-    }
+    let mut field = [0u8; fields::PLUNGE_BYTES];
+    fields::put_plunge(&mut field, 0, q);
+    listing_pass::common_run(file, at, &field)
 }
 
-// The same, in an array that is no longer than it must be.
+// Compares the fields of a run's plunges with a file from a place on, once their places are noted in an array.
 fn compare_marks(
     found: Found,
     marks: &[u8; residue_marks::MARK_PLACES],
@@ -114,12 +109,25 @@ fn compare_marks(
     ensures { λ r. ⌜ Compared (now (file .entry)) at (plungeFields (foundPlunges found (now (marks .entry)))) r
         × (length (now (noted .exit)) ≡ markPlaces) ⌝ }
 {
-    if field_bytes(found, marks) <= FEW_BYTES {
-        let mut few = [0u8; FEW_BYTES];
-        return compare_in(found, marks, noted, &mut few, file, at);
+    let count = residue_marks::note_marks(marks, found.places.number, noted);
+    let mut place = at;
+    let mut j = 0;
+    while j < count {
+        let q = noted_plunge(found, marks, noted, j);
+        let n = compare_plunge(q, file, place);
+        place += n;
+        if n < fields::PLUNGE_BYTES {
+            return Progress {
+                at: place,
+                like: false,
+            };
+        }
+        j += 1;
     }
-    let mut bytes = [0u8; RUN_BYTES];
-    compare_in(found, marks, noted, &mut bytes, file, at)
+    Progress {
+        at: place,
+        like: true,
+    }
 }
 
 // Writes the fields of a run's plunges from a place on if an output has room for them. Returns the place behind them.

@@ -1,63 +1,108 @@
--- `compare_marks`: the longer array has room for the fields of any run.
+use Prim.Native.Nat.{_-_}
 use native.Mathlib.Omega.{arith}
-use Rattle.climb.specs.Climbs.{plungeOf}
-use Rattle.listing_plunges.proofs.Marks.{marks-few}
-use borrow.Author.Needs.{needs}
+use Rattle.listing_plunges.proofs.Marks.{NotedRun, Like, noting, noted-run, noted-at, like-none, like-fits, like-few, like-more, like-stops, like-end}
 use Rattle.listing_plunges.proofs.compare_marks.Statement.{statement}
 use Rattle.listing_plunges.proofs.compare_marks.Tie as tie
 use Rattle.listing_plunges.proofs.compare_marks.Reads as reads
 use Rattle.listing_plunges.proofs.compare_marks.Lts as lts
-use Rattle.listing_plunges.proofs.compare_in.Reads as compare-in-reads
-use Rattle.listing_plunges.proofs.field_bytes.Reads as field-bytes-reads
+use Rattle.listing_plunges.proofs.compare_plunge.Reads as compare-plunge-reads
+use Rattle.listing_plunges.proofs.noted_plunge.Reads as noted-plunge-reads
+use Rattle.residue_marks.proofs.note_marks.Reads as note-marks-reads
 
--- src/lib.rt:117:8
-field-bytes-requires : tie.Need-field-bytes-requires
-field-bytes-requires c κs = search needs
+abbrev Inv-loop : tie.InvT-loop
+Inv-loop found marks noted file at count place₀ j₀ place j = NotedRun found marks noted count × Like found marks noted count file at j place
 
--- src/lib.rt:119:48
-slice-aggregate-compare-in : tie.Need-slice-aggregate-compare-in
-slice-aggregate-compare-in c = search needs
+abbrev μ-loop : tie.MeasureT-loop
+μ-loop found marks noted file at count place₀ j₀ place j = count - j
 
--- src/lib.rt:119:9
-compare-in-requires : tie.Need-compare-in-requires
-compare-in-requires c κs = search needs
+-- src/lib.rt:112:9
+note-marks-requires : tie.Need-note-marks-requires Inv-loop μ-loop
+note-marks-requires c κs = noting _ _ _ (c .before .before .pre .0) (c .before .before .pre .2)
 
--- src/lib.rt:119:9
-returns : tie.Need-returns
-returns c = search needs
+-- src/lib.rt:115:5
+loop-holds : tie.Need-loop-holds Inv-loop μ-loop
+loop-holds c =
+    let at-start = c .before .before .before in
+    let n = noted-run _ _ _ _ _ (at-start .pre .0) (at-start .pre .2) (c .note-marks .ensures) in
+    (n, like-none _ _ _ _ n _ _)
 
--- src/lib.rt:122:37
-slice-aggregate-compare-in-2 : tie.Need-slice-aggregate-compare-in-2
-slice-aggregate-compare-in-2 c = search needs
+-- src/lib.rt:116:13
+noted-plunge-requires : tie.Need-noted-plunge-requires Inv-loop μ-loop
+noted-plunge-requires c κs = noted-at _ _ _ _ (c .before .before .loop .inv .0) _ (c .before .loop-test .taken)
 
--- src/lib.rt:122:5
-compare-in-requires-2 : tie.Need-compare-in-requires-2
-compare-in-requires-2 c κs =
-    let at-start = c .before .before .before .before .before in
-    let given = at-start .args in (
-      at-start .pre .0,
-      at-start .pre .1,
-      omega (
-        arith,
-        marks-few (given .found .places .number) (plungeOf (given .found)) (given .found .places .start)
-            (given .marks .now),
-        at-start .pre .0 .short,
-      ),
-      at-start .pre .2,
+-- src/lib.rt:117:13
+compare-plunge-requires : tie.Need-compare-plunge-requires Inv-loop μ-loop
+compare-plunge-requires c κs =
+    let at-loop = c .before .before .before in
+    let at-start = at-loop .before .before .before .before in (
+      like-fits _ _ _ _ (at-loop .loop .inv .0) _ _ _ _ (at-loop .loop .inv .1) (c .before .before .loop-test .taken)
+          (at-start .pre .1),
+      c .noted-plunge .ensures .1,
+      c .noted-plunge .ensures .2,
     )
 
--- src/lib.rt:106:1
-returns-2 : tie.Need-returns-2
-returns-2 c = search needs
+-- src/lib.rt:118:9
+add-place : tie.Need-add-place Inv-loop μ-loop
+add-place c =
+    let at-loop-test = c .before .before .before in
+    let at-loop = at-loop-test .before in
+    let at-start = at-loop .before .before .before .before in
+    omega (
+      arith,
+      like-few _ _ _ _ (at-loop .loop .inv .0) _ _ _ _ (at-loop .loop .inv .1) (at-loop-test .loop-test .taken) _
+          (c .before .noted-plunge .ensures .0) _ (c .compare-plunge .ensures),
+      like-fits _ _ _ _ (at-loop .loop .inv .0) _ _ _ _ (at-loop .loop .inv .1) (at-loop-test .loop-test .taken)
+          (at-start .pre .1),
+    )
+
+-- src/lib.rt:120:13
+returns : tie.Need-returns Inv-loop μ-loop
+returns c =
+    let at-loop-test = c .before .before .before .before in
+    let at-loop = at-loop-test .before in (
+      like-stops _ _ _ _ (at-loop .loop .inv .0) _ _ _ _ (at-loop .loop .inv .1) (at-loop-test .loop-test .taken) _
+          (c .before .before .noted-plunge .ensures .0) _ (c .before .compare-plunge .ensures) (omega (arith, c .if1 .taken)),
+      at-loop .loop .inv .0 .size,
+    )
+
+-- src/lib.rt:122:9
+add-j : tie.Need-add-j Inv-loop μ-loop
+add-j c = omega arith
+
+-- src/lib.rt:115:5
+loop-less : tie.Need-loop-less Inv-loop μ-loop
+loop-less c = omega arith
+
+-- src/lib.rt:115:5
+loop-again : tie.Need-loop-again Inv-loop μ-loop
+loop-again c =
+    let at-loop-test = c .before .before .before .before in
+    let at-loop = at-loop-test .before in (
+      at-loop .loop .inv .0,
+      like-more _ _ _ _ (at-loop .loop .inv .0) _ _ _ _ (at-loop .loop .inv .1) (at-loop-test .loop-test .taken) _
+          (c .before .before .noted-plunge .ensures .0) _ (c .before .compare-plunge .ensures) (omega (arith, c .if1 .left)),
+    )
+
+-- src/lib.rt:101:1
+returns-2 : tie.Need-returns-2 Inv-loop μ-loop
+returns-2 c = (
+  like-end _ _ _ _ (c .before .loop .inv .0) _ _ _ _ (c .before .loop .inv .1) (c .loop-test .left),
+  c .before .loop .inv .0 .size,
+)
 
 pub compare-marks-spec : {M : Type 1} → statement M
 compare-marks-spec =
     tie.close
     (tie.spec
-    field-bytes-requires
-    slice-aggregate-compare-in
-    compare-in-requires
+    Inv-loop
+    μ-loop
+    note-marks-requires
+    loop-holds
+    noted-plunge-requires
+    compare-plunge-requires
+    add-place
     returns
-    slice-aggregate-compare-in-2
-    compare-in-requires-2
+    add-j
+    loop-less
+    loop-again
     returns-2)

@@ -37,8 +37,11 @@ next-requires : tie.Need-next-requires Inv-loop μ-loop
 next-requires c κs =
     let at-loop-test = c .before .before .before in
     let at-loop = at-loop-test .before in
-    record
-    { climbs = record { plate = _; relief = _; done = _; climbs = at-loop .loop .inv .2 .climbs }; more = at-loop-test .loop-test .taken; size = at-loop .loop .inv .0 }
+    record {
+      climbs = record { plate = _; relief = _; done = _; climbs = at-loop .loop .inv .2 .climbs };
+      more = at-loop-test .loop-test .taken;
+      size = at-loop .loop .inv .0;
+    }
 
 send-run-requires : tie.Need-send-run-requires Inv-loop μ-loop
 send-run-requires c κs =
