@@ -1,4 +1,4 @@
--- What the transform's numbers say at the end: wallSeed less the number is the clearance from the walls of a level, those off the plate included;
+-- What the transform's numbers say at the end: the top number less the number is the clearance from the walls of a level, those off the plate included;
 -- of a map's own numbers, above 0 is where the map reaches.
 use mathlib.Core.Path.{_≡_, refl, sym, ap, _∙_}
 use mathlib.Core.Logic.{_⊎_, inl, inr}
@@ -22,11 +22,10 @@ use Rattle.theory.proofs.Distance.{dist-sym, dist-tri}
 use Rattle.theory.proofs.Balls.{col-near, row-near}
 use Rattle.theory.proofs.Plate.{on-or-off}
 use Rattle.theory.proofs.Levels.{clearance-unique, reconstructed-one, reconstructed-zero}
-use Rattle.refusal.specs.Refusals.{largestSide}
 use Rattle.buffers.specs.Fill.{Filled, Mapped}
 use Rattle.row_arrays.specs.declared.Seeds.{Seeds}
 use Rattle.row_arrays.specs.declared.Seeds.the-variants.{Walls, Numbers}
-use Rattle.row_arrays.specs.Start.{wallSeed, seed, onBorder, start}
+use Rattle.row_arrays.specs.Start.{wallSeed, wallNumber, seed, onBorder, start}
 use Rattle.row_arrays.proofs.Rows.{row-fits}
 use Rattle.refusal.specs.Sides.{Sides}
 use Rattle.distance_transform.specs.Transform.{Plates, Propagated, Down, Up, finish, IsLevel, levelled}
@@ -75,26 +74,27 @@ side-border p x y (inr (inr (inr e))) = go (eqb x 0) (eqb (x + 1) (p .width)) (e
 
 -- ---- walls
 
-module _ (p : Head) (m : List ℕ) (t : ℕ) (level : 1 ≤ t) where
+-- walls of level t that have the number top
+module _ (top : ℕ) (p : Head) (m : List ℕ) (t : ℕ) (level : 1 ≤ t) where
   abbrev q : ℕ → ℕ → ℕ
-  q = start p (Walls t) m
+  q = start p (wallNumber top t) m
 
   -- off the plate the number of a wall, a step from it one less
-  edge-is : seed (Walls t) 0 - 1 ≡ wallSeed - 1
+  edge-is : wallNumber top t 0 - 1 ≡ top - 1
   edge-is = rw (lt-ltb 0 t level)
 
-  wall-start : (a b : ℕ) → at p m (cell a b) < t → wallSeed ≤ q a b
-  wall-start a b h = let e : seed (Walls t) (at p m (cell a b)) ≡ wallSeed = rw (lt-ltb _ _ h) in omega arith
+  wall-start : (a b : ℕ) → at p m (cell a b) < t → top ≤ q a b
+  wall-start a b h = let e : wallNumber top t (at p m (cell a b)) ≡ top = rw (lt-ltb _ _ h) in omega arith
 
-  border-start : (a b : ℕ) → Side p a b → wallSeed - 1 ≤ q a b
+  border-start : (a b : ℕ) → Side p a b → top - 1 ≤ q a b
   border-start a b h =
-      let e : cond (onBorder p a b) (seed (Walls t) 0 - 1) 0 ≡ wallSeed - 1 = rw (side-border p a b h) edge-is in
+      let e : cond (onBorder p a b) (wallNumber top t 0 - 1) 0 ≡ top - 1 = rw (side-border p a b h) edge-is in
       omega arith
 
   -- where a number at the start comes from
   data Start (a b : ℕ) : Type 0 where
-    wall : at p m (cell a b) < t → q a b ≤ wallSeed → Start a b
-    border : Side p a b → q a b ≤ wallSeed - 1 → Start a b
+    wall : at p m (cell a b) < t → q a b ≤ top → Start a b
+    border : Side p a b → q a b ≤ top - 1 → Start a b
     none : q a b ≤ 0 → Start a b
 
   start-from : (a b : ℕ) → Start a b
@@ -102,20 +102,20 @@ module _ (p : Head) (m : List ℕ) (t : ℕ) (level : 1 ≤ t) where
     where
       go : (i j : Bool) → ltb (at p m (cell a b)) t ≡ i → onBorder p a b ≡ j → Start a b
       go true true e g =
-          let s : seed (Walls t) (at p m (cell a b)) ≡ wallSeed = rw e in
-          let k : cond (onBorder p a b) (seed (Walls t) 0 - 1) 0 ≡ wallSeed - 1 = rw g edge-is in
+          let s : wallNumber top t (at p m (cell a b)) ≡ top = rw e in
+          let k : cond (onBorder p a b) (wallNumber top t 0 - 1) 0 ≡ top - 1 = rw g edge-is in
           wall (ltb-true _ _ e) (omega arith)
       go true false e g =
-          let s : seed (Walls t) (at p m (cell a b)) ≡ wallSeed = rw e in
-          let k : cond (onBorder p a b) (seed (Walls t) 0 - 1) 0 ≡ 0 = rw g in
+          let s : wallNumber top t (at p m (cell a b)) ≡ top = rw e in
+          let k : cond (onBorder p a b) (wallNumber top t 0 - 1) 0 ≡ 0 = rw g in
           wall (ltb-true _ _ e) (omega arith)
       go false true e g =
-          let s : seed (Walls t) (at p m (cell a b)) ≡ 0 = rw e in
-          let k : cond (onBorder p a b) (seed (Walls t) 0 - 1) 0 ≡ wallSeed - 1 = rw g edge-is in
+          let s : wallNumber top t (at p m (cell a b)) ≡ 0 = rw e in
+          let k : cond (onBorder p a b) (wallNumber top t 0 - 1) 0 ≡ top - 1 = rw g edge-is in
           border (border-side p a b g) (omega arith)
       go false false e g =
-          let s : seed (Walls t) (at p m (cell a b)) ≡ 0 = rw e in
-          let k : cond (onBorder p a b) (seed (Walls t) 0 - 1) 0 ≡ 0 = rw g in
+          let s : wallNumber top t (at p m (cell a b)) ≡ 0 = rw e in
+          let k : cond (onBorder p a b) (wallNumber top t 0 - 1) 0 ≡ 0 = rw g in
           none (omega arith)
 
   -- from a cell of the border, a step off the plate
@@ -193,8 +193,8 @@ module _ (p : Head) (m : List ℕ) (t : ℕ) (level : 1 ≤ t) where
         go (pos a) (negsuc b) e g = inr (above 0 (omega arith) (inr (inr (inl refl))) (omega (arith, ap (gap (pos y)) g)))
         go (pos a) (pos b) e g = plate a b e g (decLe (suc a) (p .width)) (decLe (suc b) (p .height))
 
-    module _ (narrow : p .width ≤ largestSide) (v : ℕ) (s : Propagated (p .kind) (p .width) (λ b. b < p .height) q x y v) where
-      low : (d : Cell) → at p m d < t → On p d ⊎ Towards d → wallSeed - v ≤ dist (p .kind) (cell x y) d
+    module _ (narrow : p .width < top) (v : ℕ) (s : Propagated (p .kind) (p .width) (λ b. b < p .height) q x y v) where
+      low : (d : Cell) → at p m d < t → On p d ⊎ Towards d → top - v ≤ dist (p .kind) (cell x y) d
       low d h (inl o) =
           omega (
             arith,
@@ -206,10 +206,10 @@ module _ (p : Head) (m : List ℕ) (t : ℕ) (level : 1 ≤ t) where
 
       -- the plate's own border is near enough that the number is above 0
       above-zero : 1 ≤ v
-      above-zero = omega (arith, row-fits .above, border-start 0 y (inl refl), s .bound 0 y (omega arith) upper, dist-along (p .kind) x 0 y)
+      above-zero = omega (arith, narrow, border-start 0 y (inl refl), s .bound 0 y (omega arith) upper, dist-along (p .kind) x 0 y)
 
       abbrev Met : Type 0
-      Met = (o : Cell) × (at p m o < t) × (dist (p .kind) (cell x y) o ≡ wallSeed - v)
+      Met = (o : Cell) × (at p m o < t) × (dist (p .kind) (cell x y) o ≡ top - v)
 
       met : (v ≡ 0) ⊎ ((a : ℕ) × (b : ℕ) × (a < p .width) × (b < p .height) × (v + dist (p .kind) (cell x y) (cell a b) ≤ q a b)) → Met
       met (inl z) = absurd (omega (arith, above-zero))
@@ -225,17 +225,17 @@ module _ (p : Head) (m : List ℕ) (t : ℕ) (level : 1 ≤ t) where
               )
           go (none k) = absurd (omega (arith, above-zero))
 
-      pub walls-clearance : wallSeed - v ≡ clearance p m t (cell x y)
-      walls-clearance = clearance-unique p m t level (cell x y) (wallSeed - v) (record { bound = λ d h. low d h (towards d); met = met (s .met) })
+      pub walls-clearance : top - v ≡ clearance p m t (cell x y)
+      walls-clearance = clearance-unique p m t level (cell x y) (top - v) (record { bound = λ d h. low d h (towards d); met = met (s .met) })
 
 -- ---- numbers
 
-module _ (p : Head) (m : List ℕ) (x y : ℕ) (v : ℕ) (s : Propagated (p .kind) (p .width) (λ b. b < p .height) (start p Numbers m) x y v) where
-  no-border : (n : ℕ) (b : Bool) → max n (cond b (seed Numbers 0 - 1) 0) ≡ n
+module _ (p : Head) (m : List ℕ) (x y : ℕ) (v : ℕ) (s : Propagated (p .kind) (p .width) (λ b. b < p .height) (start p (λ n. n) m) x y v) where
+  no-border : (n : ℕ) (b : Bool) → max n (cond b (0 - 1) 0) ≡ n
   no-border n true = omega arith
   no-border n false = omega arith
 
-  own : (a b : ℕ) → start p Numbers m a b ≡ at p m (cell a b)
+  own : (a b : ℕ) → start p (λ n. n) m a b ≡ at p m (cell a b)
   own a b = no-border (at p m (cell a b)) (onBorder p a b)
 
   not-reached : v ≡ 0 → Reached p m (cell x y) → ⊥
@@ -254,7 +254,7 @@ module _ (p : Head) (m : List ℕ) (x y : ℕ) (v : ℕ) (s : Propagated (p .kin
       go (inr n) = omega (arith, n m)
 
   reached : 1 ≤ v → (v ≡ 0) ⊎ ((a : ℕ) × (b : ℕ) × (a < p .width) × (b < p .height)
-      × (v + dist (p .kind) (cell x y) (cell a b) ≤ start p Numbers m a b)) → Reached p m (cell x y)
+      × (v + dist (p .kind) (cell x y) (cell a b) ≤ start p (λ n. n) m a b)) → Reached p m (cell x y)
   reached h (inl z) = absurd (omega arith)
   reached h (inr (a, b, i, j, g)) = (cell a b, omega (arith, own a b, dist-sym (p .kind) (cell a b) (cell x y)))
 
@@ -268,17 +268,17 @@ module _ (p : Head) (m : List ℕ) (x y : ℕ) (v : ℕ) (s : Propagated (p .kin
 -- ---- both
 
 pub finished : (p : Head) (s : Seeds) (m : List ℕ) (x y v : ℕ) → Sides p → IsLevel s → x < p .width → y < p .height
-    → Propagated (p .kind) (p .width) (λ b. b < p .height) (start p s m) x y v → finish s v ≡ levelled p s m (cell x y)
-finished p (Walls t) m x y v sides level h l s = walls-clearance p m t level x y h l (sides .narrow) v s
+    → Propagated (p .kind) (p .width) (λ b. b < p .height) (start p (seed s) m) x y v → finish s v ≡ levelled p s m (cell x y)
+finished p (Walls t) m x y v sides level h l s = walls-clearance wallSeed p m t level x y h l (omega (arith, sides .narrow, row-fits .above)) v s
 finished p Numbers m x y v sides level h l s = numbers-reconstructed p m x y v s
 
 -- the way down, the way up and the end
-pub transformed : (p : Head) (s : Seeds) (m old down up new : List ℕ) → Plates p m old → IsLevel s → Down p (start p s m) old down → Up p down up
+pub transformed : (p : Head) (s : Seeds) (m old down up new : List ℕ) → Plates p m old → IsLevel s → Down p (start p (seed s) m) old down → Up p down up
     → Filled (λ n. finish s (getD up n 0)) 0 (area p) up new → Mapped p (levelled p s m) old new
 transformed p s m old down up new f level d u h =
     record {
       same = h .same ∙ u .kept .same ∙ d .kept .same;
       holds = λ x y a b. h .inside (y * p .width + x) (omega arith) (digits-lt b a) ∙ finished p s m x y (getD up (y * p .width + x) 0) (f .sides)
-          level a b (u .rows (start p s m) (d .rows) y b x a);
+          level a b (u .rows (start p (seed s) m) (d .rows) y b x a);
       surplus = λ n g. h .over n g ∙ u .kept .surplus n g ∙ d .kept .surplus n g;
     }

@@ -11,10 +11,9 @@ use Rattle.geometry.specs.declared.Kind.{Kind}
 use Rattle.geometry.specs.declared.Kind.the-variants.{Diamond, Square}
 use Rattle.geometry.specs.Plane.{cell, gap, dist}
 use Rattle.theory.proofs.Distance.{dist-tri}
-use Rattle.refusal.specs.Refusals.{largestSide}
-use Rattle.row_arrays.specs.Rows.{margin, rowReach, Margins, Line, highestBeside, joinedRow, Merged}
+use Rattle.row_arrays.specs.Rows.{margin, Margins, Line, highestBeside, joinedRow, Merged}
 use Rattle.distance_transform.specs.Transform.{Propagated, RowPropagated, MapPropagated, RowOnly}
-use Rattle.row_arrays.proofs.Rows.{row-fits, margins-filled}
+use Rattle.row_arrays.proofs.Rows.{margins-filled}
 
 -- ---- along a row
 
@@ -22,14 +21,14 @@ pub dist-along : (kd : Kind) (x a y : ℕ) → dist kd (cell x y) (cell a y) ≡
 dist-along Diamond x a y = omega arith
 dist-along Square x a y = omega arith
 
--- the steps along a row reach past every column
-pub line-propagated : (kd : Kind) (w : ℕ) (q : ℕ → ℕ → ℕ) (y : ℕ) (row : List ℕ) → w ≤ largestSide → Line (λ a. q a y) w rowReach row
+-- steps along a row that reach past every column
+pub line-propagated : (kd : Kind) (w reach : ℕ) (q : ℕ → ℕ → ℕ) (y : ℕ) (row : List ℕ) → w ≤ reach → Line (λ a. q a y) w reach row
     → RowPropagated kd w (λ b. b ≡ y) q y row
-line-propagated kd w q y row small l = record { margins = l .margins; cells = λ x h. record { bound = bound x h; met = met x (l .met x h) } }
+line-propagated kd w reach q y row reached l = record { margins = l .margins; cells = λ x h. record { bound = bound x h; met = met x (l .met x h) } }
   where
     bound : (x : ℕ) → x < w → (a b : ℕ) → a < w → b ≡ y → q a b ≤ getD row (margin + x) 0 + dist kd (cell x y) (cell a b)
     bound x h a b g e = subst (λ (j : ℕ). q a j ≤ getD row (margin + x) 0 + dist kd (cell x y) (cell a j)) (sym e)
-        (omega (arith, dist-along kd x a y, l .bound x a h g (omega (arith, row-fits .reached))))
+        (omega (arith, dist-along kd x a y, l .bound x a h g (omega (arith, reached))))
 
     met : (x : ℕ) → (getD row (margin + x) 0 ≡ 0) ⊎ ((a : ℕ) × (a < w) × (getD row (margin + x) 0 + gap (pos x) (pos a) ≤ q a y))
         → (getD row (margin + x) 0 ≡ 0) ⊎ ((a : ℕ) × (b : ℕ) × (a < w) × (b ≡ y) × (getD row (margin + x) 0 + dist kd (cell x y) (cell a b) ≤ q a b))

@@ -2,43 +2,36 @@
 use mathlib.Core.Path.{_≡_, refl, sym, _∙_, subst}
 use mathlib.Core.Logic.{_⊎_, inl, inr}
 use mathlib.Core.List.{List}
-use Prim.Native.Nat.{ℕ, _+_, _*_, _-_, _≤_, _<_, max}
+use Prim.Native.Nat.{ℕ, _+_, _*_, _-_, _≤_, _<_}
 use native.Mathlib.Omega.{arith}
 use native.Mathlib.Decide.{decLe}
 use lib.ListN.{getD}
 use Rattle.geometry.specs.declared.Kind.{Kind}
 use Rattle.geometry.specs.declared.Head.{Head}
-use Rattle.buffers.specs.Fill.{Filled, PlateOnly}
+use Rattle.buffers.specs.Fill.{PlateOnly}
 use Rattle.buffers.proofs.Fill.{row-under}
-use Rattle.refusal.specs.Refusals.{largestSide}
-use Rattle.row_arrays.specs.declared.Seeds.the-variants.{Numbers}
-use Rattle.row_arrays.specs.Rows.{margin, rowReach, Margins, Row, Widened, joinedRow, Merged}
-use Rattle.row_arrays.specs.Start.{seed}
+use Rattle.row_arrays.specs.Rows.{Margins, Row, Widened, joinedRow, Merged}
 use Rattle.distance_transform.specs.Transform.{Propagated, RowPropagated, MapPropagated, RowOnly, RowDown, RowUp, Lowered, Down, Up}
-use Rattle.row_arrays.proofs.Rows.{zeros, row-zeros, margins-filled, line-start, loaded-at}
+use Rattle.row_arrays.proofs.Rows.{zeros, row-zeros, margins-filled, line-start}
 use Rattle.buffers.proofs.Rooms.{row-room}
 use Rattle.distance_transform.proofs.Join.{line-propagated, down-joins, up-joins, merged-array, merged-cells, merged-only}
 
 -- ---- one row
 
--- a row of a map, loaded into an array
-row-loaded : (kd : Kind) (w : ℕ) (Among : ℕ → Type 0) (q : ℕ → ℕ → ℕ) (y : ℕ) (map row row′ : List ℕ) → Margins w row
-    → Filled (λ n. max (seed Numbers (getD map (y * w + (n - margin)) 0)) 0) margin (margin + w) row row′ → MapPropagated kd w Among q y map
-    → RowPropagated kd w Among q y row′
-row-loaded kd w Among q y map row row′ m h s =
-    record {
-      margins = margins-filled _ w row row′ m h;
-      cells = λ x l. subst (λ (v : ℕ). Propagated kd w Among q x y v) (sym (loaded-at w (y * w) map row row′ h x l)) (s x l);
-    }
+-- a row of a map, in an array
+row-propagated : (kd : Kind) (w : ℕ) (Among : ℕ → Type 0) (q : ℕ → ℕ → ℕ) (y : ℕ) (map row : List ℕ) → Row (λ x. getD map (y * w + x) 0) w row
+    → MapPropagated kd w Among q y map → RowPropagated kd w Among q y row
+row-propagated kd w Among q y map row r s =
+    record { margins = r .margins; cells = λ x l. subst (λ (v : ℕ). Propagated kd w Among q x y v) (sym (r .cells x l)) (s x l) }
 
 module _ (p : Head) where
   abbrev w : ℕ
   w = p .width
 
-  pub row-down : (q : ℕ → ℕ → ℕ) (y : ℕ) (row₁ row₂ row₃ spare above above′ out out′ : List ℕ) → w ≤ largestSide → Row (λ x. q x y) w row₁
-      → Widened w 1 rowReach row₁ row₂ spare → RowPropagated (p .kind) w (λ b. b < y) q (y - 1) above
+  pub row-down : (reach : ℕ) (q : ℕ → ℕ → ℕ) (y : ℕ) (row₁ row₂ row₃ spare above above′ out out′ : List ℕ) → w ≤ reach → Row (λ x. q x y) w row₁
+      → Widened w 1 reach row₁ row₂ spare → RowPropagated (p .kind) w (λ b. b < y) q (y - 1) above
       → Merged (p .kind) w (y * w) above above′ row₂ row₃ out out′ → RowDown p q y row₃ spare above′ out out′
-  row-down q y row₁ row₂ row₃ spare above above′ out out′ small r l a h =
+  row-down reach q y row₁ row₂ row₃ spare above above′ out out′ reached r l a h =
       record {
         kept = merged-only (p .kind) w y above above′ row₂ row₃ out out′ h;
         row-margins = margins-filled (joinedRow (p .kind) above row₂) w row₂ row₃ (l .row-margins) (h .row-is);
@@ -48,27 +41,26 @@ module _ (p : Head) where
       }
     where
       own : RowPropagated (p .kind) w (λ b. b ≡ y) q y row₂
-      own = line-propagated (p .kind) w q y row₂ small (l .line (λ x. q x y) (line-start (λ x. q x y) w row₁ r))
+      own = line-propagated (p .kind) w reach q y row₂ reached (l .line (λ x. q x y) (line-start (λ x. q x y) w row₁ r))
 
-  pub row-up : (y : ℕ) (row₁ row₂ row₃ below below′ out out′ : List ℕ) → y < p .height → Margins w row₁
-      → Filled (λ n. max (seed Numbers (getD out (y * w + (n - margin)) 0)) 0) margin (margin + w) row₁ row₂
-      → Merged (p .kind) w (y * w) below below′ row₂ row₃ out out′ → RowUp p y row₃ below below′ out out′
-  row-up y row₁ row₂ row₃ below below′ out out′ tall m f h =
+  pub row-up : (y : ℕ) (row row′ below below′ out out′ : List ℕ) → y < p .height → Row (λ x. getD out (y * w + x) 0) w row
+      → Merged (p .kind) w (y * w) below below′ row row′ out out′ → RowUp p y row′ below below′ out out′
+  row-up y row row′ below below′ out out′ tall r h =
       record {
-        kept = merged-only (p .kind) w y below below′ row₂ row₃ out out′ h;
+        kept = merged-only (p .kind) w y below below′ row row′ out out′ h;
         row-margins = margins;
         below-margins = subst (Margins w) (sym (h .beside-is)) margins;
         array = λ q o b. merged-array (p .kind) w (λ b. b < y + 1) (λ b. b < p .height) (λ b. b < p .height) q y (y + 1)
-            (up-joins y (p .height) tall) row₂ below (own q o) b below′ row₃ out out′ h;
+            (up-joins y (p .height) tall) row below (own q o) b below′ row′ out out′ h;
         cells = λ q o b. merged-cells (p .kind) w (λ b. b < y + 1) (λ b. b < p .height) (λ b. b < p .height) q y (y + 1)
-            (up-joins y (p .height) tall) row₂ below (own q o) b below′ row₃ out out′ h;
+            (up-joins y (p .height) tall) row below (own q o) b below′ row′ out out′ h;
       }
     where
-      margins : Margins w row₃
-      margins = margins-filled (joinedRow (p .kind) below row₂) w row₂ row₃ (margins-filled _ w row₁ row₂ m f) (h .row-is)
+      margins : Margins w row′
+      margins = margins-filled (joinedRow (p .kind) below row) w row row′ (r .margins) (h .row-is)
 
-      own : (q : ℕ → ℕ → ℕ) → MapPropagated (p .kind) w (λ b. b < y + 1) q y out → RowPropagated (p .kind) w (λ b. b < y + 1) q y row₂
-      own q o = row-loaded (p .kind) w (λ b. b < y + 1) q y out row₁ row₂ m f o
+      own : (q : ℕ → ℕ → ℕ) → MapPropagated (p .kind) w (λ b. b < y + 1) q y out → RowPropagated (p .kind) w (λ b. b < y + 1) q y row
+      own q o = row-propagated (p .kind) w (λ b. b < y + 1) q y out row r o
 
   -- ---- after some rows
 
@@ -140,17 +132,15 @@ module _ (p : Head) where
     pub array : (q : ℕ → ℕ → ℕ) → Lowered p q old → RowPropagated (p .kind) w (λ b. b < p .height) q y below
     pub rows : (q : ℕ → ℕ → ℕ) → Lowered p q old → (j : ℕ) → y ≤ j → j < p .height → MapPropagated (p .kind) w (λ b. b < p .height) q j out
 
-  pub up-none : (below′ out : List ℕ) → 1 ≤ p .height
-      → Filled (λ n. max (seed Numbers (getD out ((p .height - 1) * w + (n - margin)) 0)) 0) margin (margin + w) zeros below′
-      → UpTo (p .height - 1) out zeros below′ out
-  up-none below′ out tall h =
+  pub up-none : (below out : List ℕ) → 1 ≤ p .height → Row (λ x. getD out ((p .height - 1) * w + x) 0) w below → UpTo (p .height - 1) out zeros below out
+  up-none below out tall r =
       record {
         within = omega arith;
         kept = plate-none out;
         row-margins = row-zeros w .margins;
-        below-margins = margins-filled _ w zeros below′ (row-zeros w .margins) h;
+        below-margins = r .margins;
         under = λ n l. refl;
-        array = λ q s. row-loaded (p .kind) w (λ b. b < p .height) q (p .height - 1) out zeros below′ (row-zeros w .margins) h (last q s);
+        array = λ q s. row-propagated (p .kind) w (λ b. b < p .height) q (p .height - 1) out below r (last q s);
         rows = λ q s j g l. let e : p .height - 1 ≡ j = omega arith in subst (λ (i : ℕ). MapPropagated (p .kind) w (λ b. b < p .height) q i out) e (last q s);
       }
     where

@@ -17,6 +17,7 @@ use Rattle.row_arrays.specs.declared.Seeds.{Seeds}
 use Rattle.row_arrays.specs.declared.Seeds.the-variants.{Walls, Numbers}
 use Rattle.row_arrays.specs.Rows.{margin, Margins}
 use Rattle.row_arrays.specs.Start.{wallSeed}
+use Rattle.row_arrays.specs.Asked.{Held}
 use Rattle.refusal.specs.Sides.{Sides}
 
 -- a plate of fitting sides, and buffers that hold its map and have room for one
@@ -40,16 +41,20 @@ pub record RowPropagated (kd : Kind) (w : ℕ) (Among : ℕ → Type 0) (q : ℕ
 abbrev pub MapPropagated : Kind → ℕ → (ℕ → Type 0) → (ℕ → ℕ → ℕ) → ℕ → List ℕ → Type 0
 MapPropagated kd w Among q y out = (x : ℕ) → x < w → Propagated kd w Among q x y (getD out (y * w + x) 0)
 
--- what row y asks on the way down, with the row above in an array; on the way up, with the row below
-pub record BeforeDown (p : Head) (q : ℕ → ℕ → ℕ) (m : List ℕ) (y : ℕ) (row spare above out : List ℕ) : Type 0 where
-  pub plates : Plates p m out
+-- what row y asks on the way down, with the row above in an array and steps along a row that reach past every column; on the way up, with
+-- the row below
+pub record BeforeDown (reach : ℕ) (p : Head) (q : ℕ → ℕ → ℕ) (m : List ℕ) (y : ℕ) (row spare above out : List ℕ) : Type 0 where
+  pub held : Held p
+  pub reached : p .width ≤ reach
+  pub read : area p ≤ length m
+  pub room : area p ≤ length out
   pub here : y < p .height
   pub row-margins : Margins (p .width) row
   pub spare-margins : Margins (p .width) spare
   pub array : RowPropagated (p .kind) (p .width) (λ b. b < y) q (y - 1) above
 
 pub record BeforeUp (p : Head) (y : ℕ) (row below out : List ℕ) : Type 0 where
-  pub sides : Sides p
+  pub held : Held p
   pub room : area p ≤ length out
   pub here : y < p .height
   pub row-margins : Margins (p .width) row

@@ -8,8 +8,9 @@ ghost use Prim.Native.Nat.{_≤_};
 ghost use lib.ListN.{length, getD};
 ghost use Rattle.geometry.specs.Plate.{area};
 ghost use Rattle.buffers.specs.Fill.{Filled, Mapped};
-ghost use Rattle.row_arrays.specs.Start.{start};
-ghost use Rattle.refusal.specs.Sides.{Sides};
+ghost use Rattle.row_arrays.specs.Rows.{rowReach};
+ghost use Rattle.row_arrays.specs.Start.{seed, start};
+ghost use Rattle.row_arrays.specs.Asked.{Held};
 ghost use Rattle.distance_transform.specs.Transform.{Plates, BeforeDown, RowDown, Down, BeforeUp, RowUp, Up, finish, IsLevel, levelled};
 
 // ---- the passes
@@ -25,8 +26,8 @@ fn row_down(
     above: &mut [u8; ROW_PLACES],
     out: &mut [u8],
 )
-    requires { ⌜ BeforeDown head (start head seeds (now map)) (now map) y (now row) (now spare) (now above) (now out) ⌝ }
-    ensures { λ _. ⌜ RowDown head (start head seeds (now (map .entry))) y (now (row .exit)) (now (spare .exit)) (now (above .exit))
+    requires { ⌜ BeforeDown rowReach head (start head (seed seeds) (now map)) (now map) y (now row) (now spare) (now above) (now out) ⌝ }
+    ensures { λ _. ⌜ RowDown head (start head (seed seeds) (now (map .entry))) y (now (row .exit)) (now (spare .exit)) (now (above .exit))
         (now (out .entry)) (now (out .exit)) ⌝ }
 {
     let kind = head.kind;
@@ -39,7 +40,7 @@ fn row_down(
 // Every row, each with the rows above it.
 fn pass_down(head: Head, seeds: Seeds, map: &[u8], out: &mut [u8])
     requires { ⌜ Plates head (now map) (now out) ⌝ }
-    ensures { λ _. ⌜ Down head (start head seeds (now (map .entry))) (now (out .entry)) (now (out .exit)) ⌝ }
+    ensures { λ _. ⌜ Down head (start head (seed seeds) (now (map .entry))) (now (out .entry)) (now (out .exit)) ⌝ }
 {
     let mut row = [0u8; ROW_PLACES];
     let mut spare = [0u8; ROW_PLACES];
@@ -71,7 +72,7 @@ fn row_up(
 
 // Every row from the last but one on, each with the rows below it.
 fn pass_up(head: Head, out: &mut [u8])
-    requires { ⌜ Sides head × (area head ≤ length (now out)) ⌝ }
+    requires { ⌜ Held head × (area head ≤ length (now out)) ⌝ }
     ensures { λ _. ⌜ Up head (now (out .entry)) (now (out .exit)) ⌝ }
 {
     let mut row = [0u8; ROW_PLACES];

@@ -10,25 +10,32 @@ use lib.IntN.{pos}
 use lib.ListN.{length, getD, replicate, length-replicate, getD-replicate, List·getD-eq-default}
 use lib.Seq.{ext-getD}
 use Rattle.geometry.specs.declared.Kind.{Kind}
+use Rattle.geometry.specs.declared.Head.{Head}
 use Rattle.geometry.specs.Plane.{gap}
 use Rattle.buffers.specs.Fill.{Filled}
 use Rattle.buffers.proofs.Fill.{filled-as}
 use Rattle.row_arrays.specs.declared.Seeds.the-variants.{Numbers}
 use Rattle.refusal.specs.Refusals.{largestSide}
+use Rattle.refusal.specs.Sides.{Sides}
 use Rattle.row_arrays.specs.Start.{wallSeed, seed}
-use Rattle.row_arrays.specs.Rows.{margin, rowPlaces, rowReach, Margins, Row, propagatedAt, Line, Widened, joinedRow, Merged}
+use Rattle.row_arrays.specs.Asked.{Held}
+use Rattle.row_arrays.specs.Rows.{margin, rowPlaces, widestRow, rowReach, Margins, Row, propagatedAt, Line, Widened, joinedRow, Merged}
 
 -- ---- the numbers of row arrays
 
--- What they must be on plates of the largest side: an array holds a row with a step to either side, the steps reach past every column, and
--- a wall's number, less a distance on the plate, is left above 0. Plates with larger sides will have to change it.
+-- What they must be: an array holds the widest row with a margin to either side, and the plates of the largest side; their columns are
+-- reached by the steps along a row of bytes, and a byte's number of a wall, less a distance on such a plate, is left above 0.
 pub record RowFits : Type 0 where
-  pub held : margin + largestSide + margin ≤ rowPlaces
+  pub held : margin + widestRow + margin ≤ rowPlaces
+  pub holds : largestSide ≤ widestRow
   pub reached : largestSide ≤ rowReach
   pub above : largestSide < wallSeed
 
 pub row-fits : RowFits
-row-fits = record { held = omega arith; reached = omega arith; above = omega arith }
+row-fits = record { held = omega arith; holds = omega arith; reached = omega arith; above = omega arith }
+
+pub plate-held : (p : Head) → Sides p → Held p
+plate-held p s = record { wide = s .wide; narrow = omega (arith, s .narrow, row-fits .holds); tall = s .tall }
 
 -- ---- margins
 
@@ -59,8 +66,13 @@ module _ (f : ℕ → ℕ) (w : ℕ) (old new : List ℕ) (m : Margins w old) (h
         over = λ n l. h .over n l ∙ m .over n l;
       }
 
-  pub row-filled : Row (λ x. f (margin + x)) w new
-  row-filled = record { margins = margins-filled; cells = λ x l. h .inside (margin + x) (omega arith) (omega arith) }
+-- filled by columns
+pub row-of : (g : ℕ → ℕ) (w : ℕ) (old new : List ℕ) → Margins w old → Filled (λ n. g (n - margin)) margin (margin + w) old new → Row g w new
+row-of g w old new m h =
+    record {
+      margins = margins-filled _ w old new m h;
+      cells = λ x l. let e : margin + x - margin ≡ x = omega arith in h .inside (margin + x) (omega arith) (omega arith) ∙ ap g e;
+    }
 
 -- ---- along a row
 
@@ -203,18 +215,24 @@ widened-twice w s row row′ spare spare′ m n h g k =
 
 -- ---- the row beside
 
--- a copied array is the array
-pub copied : (src dst dst′ : List ℕ) → length src ≡ rowPlaces → length dst ≡ rowPlaces → Filled (λ n. getD src n 0) 0 rowPlaces dst dst′ → dst′ ≡ src
-copied src dst dst′ s d h = ext-getD 0 dst′ src (h .same ∙ d ∙ sym s) (λ n l. h .inside n (omega arith) (omega (arith, h .same)))
+-- an array with the columns of another is the other: both have the same zeros
+copied : (w : ℕ) (src dst dst′ : List ℕ) → Margins w src → Margins w dst → Filled (λ n. getD src n 0) margin (margin + w) dst dst′ → dst′ ≡ src
+copied w src dst dst′ s d h =
+    ext-getD 0 dst′ src (h .same ∙ d .size ∙ sym (s .size)) (λ n l. at-place n (decLe margin n) (decLe (margin + w) n))
+  where
+    at-place : (n : ℕ) → Dec (margin ≤ n) → Dec (margin + w ≤ n) → getD dst′ n 0 ≡ getD src n 0
+    at-place n (no a) b = h .under n (omega arith) ∙ d .under n (omega arith) ∙ sym (s .under n (omega arith))
+    at-place n (yes a) (yes b) = h .over n b ∙ d .over n b ∙ sym (s .over n b)
+    at-place n (yes a) (no b) = h .inside n a (omega arith)
 
 -- the joined row, stored and left as the next row's row beside
-pub merged : (kd : Kind) (w from : ℕ) (beside beside′ row row′ out out′ : List ℕ) → length beside ≡ rowPlaces → length row ≡ rowPlaces
+pub merged : (kd : Kind) (w from : ℕ) (beside beside′ row row′ out out′ : List ℕ) → Margins w beside → Margins w row
     → Filled (joinedRow kd beside row) margin (margin + w) row row′ → Filled (λ n. getD row′ (margin + (n - from)) 0) from (from + w) out out′
-    → Filled (λ n. getD row′ n 0) 0 rowPlaces beside beside′ → Merged kd w from beside beside′ row row′ out out′
-merged kd w from beside beside′ row row′ out out′ s z r o b =
+    → Filled (λ n. getD row′ n 0) margin (margin + w) beside beside′ → Merged kd w from beside beside′ row row′ out out′
+merged kd w from beside beside′ row row′ out out′ m z r o b =
     record {
       row-is = r;
-      beside-is = copied row′ beside beside′ (r .same ∙ z) s b;
+      beside-is = copied w row′ beside beside′ (margins-filled (joinedRow kd beside row) w row row′ z r) m b;
       out-is = filled-as (λ n. getD row′ (margin + (n - from)) 0) (λ n. joinedRow kd beside row (margin + (n - from))) from (from + w) out out′ o
           (λ n h l. r .inside (margin + (n - from)) (omega arith) (omega arith));
     }
@@ -222,9 +240,7 @@ merged kd w from beside beside′ row row′ out out′ s z r o b =
 -- ---- a row of a map
 
 -- a map's own numbers in an array
-pub loaded-at : (w from : ℕ) (map row row′ : List ℕ)
-    → Filled (λ n. max (seed Numbers (getD map (from + (n - margin)) 0)) 0) margin (margin + w) row row′ → (x : ℕ) → x < w
-    → getD row′ (margin + x) 0 ≡ getD map (from + x) 0
-loaded-at w from map row row′ h x l =
-    let e : margin + x - margin ≡ x = omega arith in
-    omega (arith, h .inside (margin + x) (omega arith) (omega arith), ap (λ (i : ℕ). getD map (from + i) 0) e)
+pub row-loaded : (w from : ℕ) (map row row′ : List ℕ) → Margins w row
+    → Filled (λ n. max (seed Numbers (getD map (from + (n - margin)) 0)) 0) margin (margin + w) row row′ → Row (λ x. getD map (from + x) 0) w row′
+row-loaded w from map row row′ m h =
+    row-of (λ x. getD map (from + x) 0) w row row′ m (filled-as _ (λ n. getD map (from + (n - margin)) 0) margin (margin + w) row row′ h (λ n a b. omega arith))

@@ -12,12 +12,16 @@ use Rattle.buffers.specs.Fill.{Filled}
 
 -- the array's length, and the place of column 0
 abbrev pub rowPlaces : ℕ
-rowPlaces = 512
+rowPlaces = 2048
 
 abbrev pub margin : ℕ
-margin = 128
+margin = 512
 
--- what the steps along a row reach: the columns that are less than this apart
+-- the most columns of a row: an array holds them with a margin to either side
+abbrev pub widestRow : ℕ
+widestRow = 1024
+
+-- what the steps along a row of bytes reach: the columns that are less than this apart
 abbrev pub rowReach : ℕ
 rowReach = 256
 

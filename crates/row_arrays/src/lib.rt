@@ -7,8 +7,7 @@ ghost use Prim.Native.Nat.{_+_, _-_, _*_, _≤_, _<_, max};
 ghost use lib.Dec.{eqb};
 ghost use lib.ListN.{length, getD};
 ghost use Rattle.buffers.specs.Fill.{Filled};
-ghost use Rattle.refusal.specs.Refusals.{largestSide};
-ghost use Rattle.row_arrays.specs.Rows.{margin, rowPlaces, rowReach, Row, propagatedAt, Widened, highestBeside, joinedRow, Merged};
+ghost use Rattle.row_arrays.specs.Rows.{margin, rowPlaces, widestRow, rowReach, Row, propagatedAt, Widened, highestBeside, joinedRow, Merged};
 ghost use Rattle.row_arrays.specs.Start.{seed, start};
 ghost use Rattle.row_arrays.specs.Asked.{Loadable, RowPair, Mergeable};
 
@@ -21,10 +20,11 @@ pub enum Seeds {
 // The number of a wall, from which distances are taken off.
 pub const WALL: u8 = 255;
 
-// A row of cells is held in an array: column x at place MARGIN + x, zeros at all other places.
-pub const MARGIN: usize = 128;
+// A row of cells is held in an array: column x at place MARGIN + x, zeros at all other places. It has up to 1,024 columns, so that rows of
+// 16-bit numbers are held alike.
+pub const MARGIN: usize = 512;
 
-pub const ROW_PLACES: usize = 512;
+pub const ROW_PLACES: usize = 2048;
 
 fn seed_of(seeds: Seeds, n: u8) -> u8
     ensures { λ r. ⌜ r ≡ seed seeds n ⌝ }
@@ -46,7 +46,7 @@ pub fn load_run(
     floor: u8,
     row: &mut [u8; ROW_PLACES],
 )
-    requires { ⌜ (from + width ≤ length (now map)) × (width ≤ largestSide) × (length (now row) ≡ rowPlaces) ⌝ }
+    requires { ⌜ (from + width ≤ length (now map)) × (width ≤ widestRow) × (length (now row) ≡ rowPlaces) ⌝ }
     ensures { λ _. ⌜ Filled (λ n. max (seed seeds (getD (now (map .entry)) (from + (n - margin)) 0)) floor) margin (margin + width)
         (now (row .entry)) (now (row .exit)) ⌝ }
 {
@@ -74,7 +74,7 @@ fn floor_of(y: usize, height: usize, edge: u8) -> u8
 // The numbers that a row of the plate starts from.
 pub fn load_row(head: Head, seeds: Seeds, map: &[u8], y: usize, row: &mut [u8; ROW_PLACES])
     requires { ⌜ Loadable head (now map) y (now row) ⌝ }
-    ensures { λ _. ⌜ Row (λ x. start head seeds (now (map .entry)) x y) (head .width) (now (row .exit)) ⌝ }
+    ensures { λ _. ⌜ Row (λ x. start head (seed seeds) (now (map .entry)) x y) (head .width) (now (row .exit)) ⌝ }
 {
     let width = head.width as usize;
     let edge = window::less(seed_of(seeds, 0), 1);
@@ -88,7 +88,7 @@ pub fn load_row(head: Head, seeds: Seeds, map: &[u8], y: usize, row: &mut [u8; R
 
 // One doubling: what is known within a step becomes known within two.
 fn propagate_step(src: &[u8; ROW_PLACES], dst: &mut [u8; ROW_PLACES], step: usize, width: usize)
-    requires { ⌜ (step ≤ margin) × (width ≤ largestSide) × (length (now dst) ≡ rowPlaces) ⌝ }
+    requires { ⌜ (step < rowReach) × (width ≤ widestRow) × (length (now dst) ≡ rowPlaces) ⌝ }
     ensures { λ _. ⌜ Filled (propagatedAt (now (src .entry)) step) margin (margin + width) (now (dst .entry)) (now (dst .exit)) ⌝ }
 {
     let fall = step as u8;
@@ -112,7 +112,7 @@ fn propagate_twice(
     step: usize,
     width: usize,
 )
-    requires { ⌜ (2 * step ≤ margin) × RowPair width (now row) (now spare) ⌝ }
+    requires { ⌜ (2 * step < rowReach) × RowPair width (now row) (now spare) ⌝ }
     ensures { λ _. ⌜ Widened width step (4 * step) (now (row .entry)) (now (row .exit)) (now (spare .exit)) ⌝ }
 {
     propagate_step(row, spare, step, width);
@@ -145,7 +145,7 @@ fn highest_beside(kind: Kind, beside: &[u8; ROW_PLACES], n: usize) -> u8
 
 // From the row beside: its highest near each cell, less 1.
 fn join_row(kind: Kind, beside: &[u8; ROW_PLACES], row: &mut [u8; ROW_PLACES], width: usize)
-    requires { ⌜ (width ≤ largestSide) × (length (now row) ≡ rowPlaces) ⌝ }
+    requires { ⌜ (width ≤ widestRow) × (length (now row) ≡ rowPlaces) ⌝ }
     ensures { λ _. ⌜ Filled (joinedRow kind (now (beside .entry)) (now (row .entry))) margin (margin + width) (now (row .entry)) (now (row .exit)) ⌝ }
 {
     let mut n = MARGIN;
@@ -157,12 +157,24 @@ fn join_row(kind: Kind, beside: &[u8; ROW_PLACES], row: &mut [u8; ROW_PLACES], w
 
 // A row into its stretch of a map.
 fn store_row(row: &[u8; ROW_PLACES], out: &mut [u8], from: usize, width: usize)
-    requires { ⌜ (from + width ≤ length (now out)) × (width ≤ largestSide) ⌝ }
+    requires { ⌜ (from + width ≤ length (now out)) × (width ≤ widestRow) ⌝ }
     ensures { λ _. ⌜ Filled (λ n. getD (now (row .entry)) (margin + (n - from)) 0) from (from + width) (now (out .entry)) (now (out .exit)) ⌝ }
 {
     let mut n = from;
     while n < from + width {
         out[n] = row[MARGIN + (n - from)];
+        n += 1;
+    }
+}
+
+// A row's columns to those of another.
+fn copy_row(row: &[u8; ROW_PLACES], beside: &mut [u8; ROW_PLACES], width: usize)
+    requires { ⌜ (width ≤ widestRow) × (length (now beside) ≡ rowPlaces) ⌝ }
+    ensures { λ _. ⌜ Filled (λ n. getD (now (row .entry)) n 0) margin (margin + width) (now (beside .entry)) (now (beside .exit)) ⌝ }
+{
+    let mut n = MARGIN;
+    while n < MARGIN + width {
+        beside[n] = row[n];
         n += 1;
     }
 }
@@ -182,5 +194,5 @@ pub fn merge_row(
 {
     join_row(kind, beside, row, width);
     store_row(row, out, from, width);
-    buffers::copy_run(row, beside, ROW_PLACES);
+    copy_row(row, beside, width);
 }

@@ -24,7 +24,7 @@ use Rattle.buffers.proofs.Rooms.{row-room}
 use Rattle.row_arrays.specs.declared.Seeds.the-variants.{Numbers}
 use Rattle.row_arrays.specs.Rows.{margin, Margins, Row}
 use Rattle.row_arrays.specs.Start.{seed}
-use Rattle.row_arrays.proofs.Rows.{zeros, row-zeros, margins-filled, loaded-at}
+use Rattle.row_arrays.proofs.Rows.{zeros, row-zeros, margins-filled, row-loaded}
 use Rattle.window_filter.specs.declared.Leaf.{Leaf}
 use Rattle.window_filter.specs.declared.Leaf.the-variants as v
 use Rattle.window_filter.specs.Filter.{windowRows, leaf, rowOf, FilteredRow}
@@ -49,7 +49,7 @@ module _ (p : Head) (e : ℕ) where
   pub row-read : (m : List ℕ) (y : ℕ) (row row′ : List ℕ) → Margins inner row → y + e < p .height
       → Filled (λ n. max (seed Numbers (getD m (y * w + e + (n - margin)) 0)) 0) margin (margin + inner) row row′ → Row (rowOf p e m y) inner row′
   row-read m y row row′ a l h =
-      record { margins = margins-filled _ inner row row′ a h; cells = λ x g. loaded-at inner (y * w + e) m row row′ h x g ∙ rw (lt-ltb _ _ l) }
+      let r = row-loaded inner (y * w + e) m row row′ a h in record { margins = r .margins; cells = λ x g. r .cells x g ∙ rw (lt-ltb _ _ l) }
 
   pub row-cleared : (m : List ℕ) (y : ℕ) (row row′ : List ℕ) → Margins inner row → p .height ≤ y + e
       → Filled (λ n. 0) margin (margin + inner) row row′ → Row (rowOf p e m y) inner row′

@@ -2,13 +2,14 @@
 use Prim.Native.Nat.{_-_}
 use native.Mathlib.Omega.{arith}
 use borrow.Author.Needs.{needs}
-use Rattle.row_arrays.specs.Start.{start}
+use Rattle.row_arrays.specs.Start.{seed, start}
+use Rattle.row_arrays.proofs.Rows.{row-fits, plate-held}
 use Rattle.distance_transform.proofs.Passes.{DownTo, down-none, down-more, down-all}
 use Rattle.distance_transform.proofs.pass_down.Statement.{statement}
 use Rattle.distance_transform.proofs.pass_down.Tie as tie
 
 abbrev Inv-loop : tie.InvT-loop
-Inv-loop head seeds map out₀ row₀ spare₀ above₀ height y₀ out row spare above y = DownTo head (start head seeds map) y out₀ row spare above out
+Inv-loop head seeds map out₀ row₀ spare₀ above₀ height y₀ out row spare above y = DownTo head (start head (seed seeds) map) y out₀ row spare above out
 
 abbrev μ-loop : tie.MeasureT-loop
 μ-loop head seeds map out₀ row₀ spare₀ above₀ height y₀ out row spare above y = head .height - y
@@ -27,7 +28,10 @@ row-down-requires c κs =
     let d = at-loop .loop .inv in
     let g = at-start .pre in
     record {
-      plates = record { sides = g .sides; read = g .read; room = omega (arith, g .room, d .kept .same) };
+      held = plate-held _ (g .sides);
+      reached = omega (arith, g .sides .narrow, row-fits .reached);
+      read = g .read;
+      room = omega (arith, g .room, d .kept .same);
       here = at-loop-test .loop-test .taken;
       row-margins = d .row-margins;
       spare-margins = d .spare-margins;

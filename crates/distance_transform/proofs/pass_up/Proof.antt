@@ -5,6 +5,7 @@ use lib.ListN.{length}
 use native.Mathlib.Omega.{arith}
 use borrow.Author.Needs.{needs}
 use Rattle.buffers.proofs.Rooms.{row-room}
+use Rattle.row_arrays.proofs.Rows.{row-zeros, row-loaded}
 use Rattle.distance_transform.proofs.Passes.{UpTo, up-none, up-more, up-all}
 use Rattle.distance_transform.proofs.pass_up.Statement.{statement}
 use Rattle.distance_transform.proofs.pass_up.Tie as tie
@@ -46,7 +47,9 @@ load-run-requires c κs =
 loop-holds : tie.Need-loop-holds Inv-loop μ-loop
 loop-holds c =
     let at-start = c .before .before .before .before .before .before in
-    up-none _ _ _ (at-start .pre .0 .tall) (c .load-run .ensures)
+    let w = at-start .args .head .width in
+    up-none _ _ _ (at-start .pre .0 .tall)
+    (row-loaded w ((at-start .args .head .height - 1) * w) (at-start .args .out .now) _ _ (row-zeros w .margins) (c .load-run .ensures))
 
 sub-y-2 : tie.Need-sub-y-2 Inv-loop μ-loop
 sub-y-2 c = omega arith
@@ -58,7 +61,7 @@ row-up-requires c κs =
     let d = at-loop .loop .inv in
     let g = at-start .pre in
     record {
-      sides = g .0;
+      held = g .0;
       room = omega (arith, g .1, d .kept .same);
       here = omega (arith, d .within);
       row-margins = d .row-margins;

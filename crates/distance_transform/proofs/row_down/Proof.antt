@@ -10,7 +10,7 @@ use Rattle.distance_transform.proofs.row_down.Tie as tie
 
 -- the row lies in the map that is written
 row-within : (s : tie.Start) → s .args .y * s .args .head .width + s .args .head .width ≤ length (s .args .out .now)
-row-within s = row-room (s .args .head .width) (s .args .y) (s .args .head .height) _ (s .pre .here) (s .pre .plates .room)
+row-within s = row-room (s .args .head .width) (s .args .y) (s .args .head .height) _ (s .pre .here) (s .pre .room)
 
 cast-width : tie.Need-cast-width
 cast-width c = search needs
@@ -32,9 +32,9 @@ merge-row-requires c κs =
     let s = at-propagate-row .before .before .before .before .before .before .before .before in
     record {
       room = row-within s;
-      narrow = s .pre .plates .sides .narrow;
-      beside-size = s .pre .array .margins .size;
-      row-size = at-propagate-row .propagate-row .ensures .row-margins .size;
+      narrow = s .pre .held .narrow;
+      beside-margins = s .pre .array .margins;
+      row-margins = at-propagate-row .propagate-row .ensures .row-margins;
     }
 
 same-length : tie.Need-same-length
@@ -45,7 +45,7 @@ returns c =
     let at-propagate-row = c .before .before .before .before .before .before in
     let at-load-row = at-propagate-row .before .before .before in
     let at-start = at-load-row .before .before .before .before .before in
-    row-down _ _ _ _ _ _ _ _ _ _ _ (at-start .pre .plates .sides .narrow) (at-load-row .load-row .ensures)
+    row-down _ _ _ _ _ _ _ _ _ _ _ _ (at-start .pre .reached) (at-load-row .load-row .ensures)
     (at-propagate-row .propagate-row .ensures) (at-start .pre .array) (c .before .before .merge-row .ensures)
 
 pub row-down-spec : {M : Type 1} → statement M

@@ -1,10 +1,10 @@
 -- `row_up` propagates a row over all rows, from the row below.
-use mathlib.Core.Path.{_∙_}
 use Prim.Native.Nat.{_+_, _*_, _≤_}
 use native.Mathlib.Omega.{arith}
 use lib.ListN.{length}
 use borrow.Author.Needs.{needs}
 use Rattle.buffers.proofs.Rooms.{row-room}
+use Rattle.row_arrays.proofs.Rows.{margins-filled, row-loaded}
 use Rattle.distance_transform.proofs.Passes.{row-up}
 use Rattle.distance_transform.proofs.row_up.Statement.{statement}
 use Rattle.distance_transform.proofs.row_up.Tie as tie
@@ -25,7 +25,7 @@ load-run-requires : tie.Need-load-run-requires
 load-run-requires c κs =
     let s = c .before .before .before .before in (
       row-within s,
-      s .pre .sides .narrow,
+      s .pre .held .narrow,
       s .pre .row-margins .size,
     )
 
@@ -40,9 +40,9 @@ merge-row-requires c κs =
     let s = at-load-run .before .before .before .before .before in
     record {
       room = row-within s;
-      narrow = s .pre .sides .narrow;
-      beside-size = s .pre .below-margins .size;
-      row-size = at-load-run .load-run .ensures .same ∙ s .pre .row-margins .size;
+      narrow = s .pre .held .narrow;
+      beside-margins = s .pre .below-margins;
+      row-margins = margins-filled _ (s .args .head .width) _ _ (s .pre .row-margins) (at-load-run .load-run .ensures);
     }
 
 same-length : tie.Need-same-length
@@ -52,7 +52,8 @@ returns : tie.Need-returns
 returns c =
     let at-load-run = c .before .before .before .before .before .before in
     let s = at-load-run .before .before .before .before .before in
-    row-up (s .args .head) (s .args .y) _ _ _ _ _ _ _ (s .pre .here) (s .pre .row-margins) (at-load-run .load-run .ensures)
+    row-up (s .args .head) (s .args .y) _ _ _ _ _ _ (s .pre .here)
+    (row-loaded (s .args .head .width) (s .args .y * s .args .head .width) (s .args .out .now) _ _ (s .pre .row-margins) (at-load-run .load-run .ensures))
     (c .before .before .merge-row .ensures)
 
 pub row-up-spec : {M : Type 1} → statement M

@@ -5,6 +5,7 @@ use lib.ListN.{length}
 use native.Mathlib.Omega.{arith}
 use borrow.Author.Needs.{needs}
 use Rattle.buffers.proofs.Rooms.{row-room}
+use Rattle.row_arrays.specs.Start.{seed}
 use Rattle.row_arrays.proofs.Start.{loaded}
 use Rattle.row_arrays.proofs.load_row.Statement.{statement}
 use Rattle.row_arrays.proofs.load_row.Tie as tie
@@ -37,7 +38,7 @@ load-run-requires : tie.Need-load-run-requires
 load-run-requires c κs =
     let at-start = c .before .before .before .before .before .before .before in (
       row-within at-start,
-      at-start .pre .sides .narrow,
+      at-start .pre .held .narrow,
       at-start .pre .margins .size,
     )
 
@@ -78,7 +79,7 @@ returns c =
     let at-less = at-floor-of .before .before in
     let at-seed-of = at-less .before in
     let s = at-seed-of .before .before .before in
-    loaded (s .args .head) (s .args .seeds) (s .args .map .now) (s .args .y) (s .pre .sides) (s .pre .here) _
+    loaded (s .args .head) (seed (s .args .seeds)) (s .args .map .now) (s .args .y) (s .pre .held) (s .pre .here) _
     (at-less .less .ensures ∙ ap (λ v. v - 1) (at-seed-of .seed-of .ensures)) _ _ _ _ _ (s .pre .margins)
     (at-floor-of .floor-of .ensures) (at-load-run .load-run .ensures) (c .before .before .higher .ensures)
     (c .higher2 .ensures)

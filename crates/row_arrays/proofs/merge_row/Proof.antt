@@ -10,20 +10,20 @@ join-row-requires c κs = search needs
 store-row-requires : tie.Need-store-row-requires
 store-row-requires c κs = search needs
 
-copy-run-requires : tie.Need-copy-run-requires
-copy-run-requires c κs = search needs
+copy-row-requires : tie.Need-copy-row-requires
+copy-row-requires c κs = search needs
 
 same-length : tie.Need-same-length
 same-length c = search needs
 
 returns : tie.Need-returns
 returns c =
-    let at-store-row = c .before .before .before .before .before .before in
+    let at-store-row = c .before .before .before .before .before in
     let at-join-row = at-store-row .before .before .before in
     let at-start = at-join-row .before .before .before .before in
-    merged _ _ _ _ _ _ _ _ _ (at-start .pre .beside-size) (at-start .pre .row-size) (at-join-row .join-row .ensures)
-    (at-store-row .store-row .ensures) (c .copy-run .ensures)
+    merged _ _ _ _ _ _ _ _ _ (at-start .pre .beside-margins) (at-start .pre .row-margins) (at-join-row .join-row .ensures)
+    (at-store-row .store-row .ensures) (c .copy-row .ensures)
 
 pub merge-row-spec : {M : Type 1} → statement M
 merge-row-spec =
-    tie.close (tie.spec join-row-requires store-row-requires copy-run-requires same-length returns)
+    tie.close (tie.spec join-row-requires store-row-requires copy-row-requires same-length returns)

@@ -1,4 +1,4 @@
--- `propagate_row` widens what is known from each column alone to 256 columns: by four, four times.
+-- `propagate_row` widens what is known from each column alone to `rowReach` columns: by four, four times.
 use borrow.Author.Needs.{needs}
 use Rattle.row_arrays.proofs.propagate_row.Statement.{statement}
 use Rattle.row_arrays.proofs.propagate_row.Tie as tie

@@ -1,4 +1,5 @@
 -- `propagate_twice` widens what is known by four: a doubling into the spare row and a doubling back.
+use native.Mathlib.Omega.{arith}
 use borrow.Author.Needs.{needs}
 use Rattle.row_arrays.proofs.Rows.{widened-twice}
 use Rattle.row_arrays.proofs.propagate_twice.Statement.{statement}
@@ -18,7 +19,7 @@ returns c =
     let at-propagate-step = c .before .before .before in
     let at-start = at-propagate-step .before .before .before in
     widened-twice _ _ _ _ _ _ (at-start .pre .1 .row-margins) (at-start .pre .1 .spare-margins) (at-propagate-step .propagate-step .ensures)
-    (c .propagate-step2 .ensures) (at-start .pre .0)
+    (c .propagate-step2 .ensures) (omega (arith, at-start .pre .0))
 
 pub propagate-twice-spec : {M : Type 1} → statement M
 propagate-twice-spec =
