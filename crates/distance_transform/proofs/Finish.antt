@@ -230,14 +230,15 @@ module _ (top : ℕ) (p : Head) (m : List ℕ) (t : ℕ) (level : 1 ≤ t) where
 
 -- ---- numbers
 
+no-border : (n : ℕ) (b : Bool) → max n (cond b (0 - 1) 0) ≡ n
+no-border n true = omega arith
+no-border n false = omega arith
+
+-- a map's own numbers start as they are: cells off the plate have none
+pub start-numbers : (p : Head) (m : List ℕ) (a b : ℕ) → start p (λ n. n) m a b ≡ at p m (cell a b)
+start-numbers p m a b = no-border (at p m (cell a b)) (onBorder p a b)
+
 module _ (p : Head) (m : List ℕ) (x y : ℕ) (v : ℕ) (s : Propagated (p .kind) (p .width) (λ b. b < p .height) (start p (λ n. n) m) x y v) where
-  no-border : (n : ℕ) (b : Bool) → max n (cond b (0 - 1) 0) ≡ n
-  no-border n true = omega arith
-  no-border n false = omega arith
-
-  own : (a b : ℕ) → start p (λ n. n) m a b ≡ at p m (cell a b)
-  own a b = no-border (at p m (cell a b)) (onBorder p a b)
-
   not-reached : v ≡ 0 → Reached p m (cell x y) → ⊥
   not-reached z (o, h) = go (on-or-off p o)
     where
@@ -246,7 +247,7 @@ module _ (p : Head) (m : List ℕ) (x y : ℕ) (v : ℕ) (s : Propagated (p .kin
           omega (
             arith,
             s .bound (i .column) (i .row) (i .left) (i .upper),
-            own (i .column) (i .row),
+            start-numbers p m (i .column) (i .row),
             ap (at p m) (i .is),
             ap (dist (p .kind) (cell x y)) (i .is),
             dist-sym (p .kind) o (cell x y),
@@ -256,7 +257,7 @@ module _ (p : Head) (m : List ℕ) (x y : ℕ) (v : ℕ) (s : Propagated (p .kin
   reached : 1 ≤ v → (v ≡ 0) ⊎ ((a : ℕ) × (b : ℕ) × (a < p .width) × (b < p .height)
       × (v + dist (p .kind) (cell x y) (cell a b) ≤ start p (λ n. n) m a b)) → Reached p m (cell x y)
   reached h (inl z) = absurd (omega arith)
-  reached h (inr (a, b, i, j, g)) = (cell a b, omega (arith, own a b, dist-sym (p .kind) (cell a b) (cell x y)))
+  reached h (inr (a, b, i, j, g)) = (cell a b, omega (arith, start-numbers p m a b, dist-sym (p .kind) (cell a b) (cell x y)))
 
   pub numbers-reconstructed : finish Numbers v ≡ reconstructed p m (cell x y)
   numbers-reconstructed = go (decLe 1 v)

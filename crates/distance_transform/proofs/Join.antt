@@ -11,6 +11,7 @@ use Rattle.geometry.specs.declared.Kind.{Kind}
 use Rattle.geometry.specs.declared.Kind.the-variants.{Diamond, Square}
 use Rattle.geometry.specs.Plane.{cell, gap, dist}
 use Rattle.theory.proofs.Distance.{dist-tri}
+use Rattle.buffers.specs.Fill.{Filled}
 use Rattle.row_arrays.specs.Rows.{margin, Margins, Line, highestBeside, joinedRow, Merged}
 use Rattle.distance_transform.specs.Transform.{Propagated, RowPropagated, MapPropagated, RowOnly}
 use Rattle.row_arrays.proofs.Rows.{margins-filled}
@@ -163,14 +164,16 @@ module _ (kd : Kind) (w : ℕ) (Own Beside Both : ℕ → Type 0) (q : ℕ → �
           let s = source w beside (next .margins) x y z h kd (joins .adjacent) (omega arith) in
           of-next s (omega (arith, s .is)) (next .cells (s .column) (s .inside) .met)
 
+  pub joined-array : (row′ : List ℕ) → Filled (joinedRow kd beside row) margin (margin + w) row row′ → RowPropagated kd w Both q y row′
+  joined-array row′ h =
+      record {
+        margins = margins-filled (joinedRow kd beside row) w row row′ (own .margins) h;
+        cells = λ x l. propagated-join x l (getD row′ (margin + x) 0) (h .inside (margin + x) (omega arith) (omega arith));
+      }
+
   module _ (beside′ row′ out out′ : List ℕ) (h : Merged kd w (y * w) beside beside′ row row′ out out′) where
     pub merged-array : RowPropagated kd w Both q y beside′
-    merged-array =
-        subst (RowPropagated kd w Both q y) (sym (h .beside-is))
-        (record {
-          margins = margins-filled (joinedRow kd beside row) w row row′ (own .margins) (h .row-is);
-          cells = λ x l. propagated-join x l (getD row′ (margin + x) 0) (h .row-is .inside (margin + x) (omega arith) (omega arith));
-        })
+    merged-array = subst (RowPropagated kd w Both q y) (sym (h .beside-is)) (joined-array row′ (h .row-is))
 
     pub merged-cells : MapPropagated kd w Both q y out′
     merged-cells x l =

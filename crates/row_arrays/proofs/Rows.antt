@@ -216,7 +216,7 @@ widened-twice w s row row′ spare spare′ m n h g k =
 -- ---- the row beside
 
 -- an array with the columns of another is the other: both have the same zeros
-copied : (w : ℕ) (src dst dst′ : List ℕ) → Margins w src → Margins w dst → Filled (λ n. getD src n 0) margin (margin + w) dst dst′ → dst′ ≡ src
+pub copied : (w : ℕ) (src dst dst′ : List ℕ) → Margins w src → Margins w dst → Filled (λ n. getD src n 0) margin (margin + w) dst dst′ → dst′ ≡ src
 copied w src dst dst′ s d h =
     ext-getD 0 dst′ src (h .same ∙ d .size ∙ sym (s .size)) (λ n l. at-place n (decLe margin n) (decLe (margin + w) n))
   where

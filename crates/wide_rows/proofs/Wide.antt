@@ -140,7 +140,8 @@ module _ (f : ℕ → ℕ) (from : ℕ) where
       ∙ sym (getD-wide old to (omega arith))
 
   -- the same with other numbers that agree
-  pub wide-as : (g : ℕ → ℕ) (to : ℕ) (old new : List ℕ) → WideFilled f from to old new → ((n : ℕ) → from ≤ n → n < to → f n ≡ g n) → WideFilled g from to old new
+  pub wide-as : (g : ℕ → ℕ) (to : ℕ) (old new : List ℕ) → WideFilled f from to old new → ((n : ℕ) → from ≤ n → n < to → f n ≡ g n)
+      → WideFilled g from to old new
   wide-as g to old new h e =
       record {
         same = h .same;
