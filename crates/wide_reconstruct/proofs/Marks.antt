@@ -2,13 +2,11 @@
 -- reconstruction.
 use mathlib.Core.Path.{_≡_, refl, sym, ap, _∙_, subst}
 use mathlib.Core.Logic.{_⊎_, inl, inr}
-use mathlib.Core.Bool.{Bool, true, false, cond}
 use mathlib.Core.List.{List, _++_}
 use Prim.Native.Nat.{ℕ, suc, _+_, _*_, _-_, _≤_, _<_, max}
 use native.Mathlib.Omega.{arith}
 use native.Mathlib.Decide.{decLe}
 use borrow.Author.Tests.{lt-ltb, le-ltb}
-use lib.Dec.{ltb}
 use lib.IntN.{pos}
 use lib.ListN.{length, getD, drop}
 use Rattle.geometry.specs.declared.Kind.{Kind}
@@ -28,7 +26,7 @@ use Rattle.wide_rows.proofs.Wide.{wide-fits}
 use Rattle.distance_transform.specs.Transform.{Propagated, RowPropagated}
 use Rattle.distance_transform.proofs.Join.{Joins, line-propagated, down-joins, joined-array}
 use Rattle.distance_transform.proofs.Finish.{start-numbers, numbers-reconstructed}
-use Rattle.wide_reconstruct.specs.Marks.{marked, own, MarkPlates, RowMarked, Marks, MarkedDown, MarkedUp}
+use Rattle.wide_reconstruct.specs.Marks.{marked, own, RowMarked, Marks, MarkedDown, MarkedUp}
 
 -- ---- one row
 

@@ -8,8 +8,8 @@ use lib.ListN.{length, getD, drop, set, length-set, length-append, length-drop, 
 use lib.Seq.{ext-getD, getD-set-same, getD-set-other, getD-append-add, getD-drop}
 use Rattle.geometry.specs.declared.Kind.{Kind}
 use Rattle.buffers.specs.Fill.{Filled}
-use Rattle.row_arrays.specs.Rows.{margin, widestRow, Margins, Row, joinedRow}
-use Rattle.row_arrays.proofs.Rows.{margins-filled, merged}
+use Rattle.row_arrays.specs.Rows.{margin, widestRow, Margins, joinedRow}
+use Rattle.row_arrays.proofs.Rows.{merged}
 use Rattle.wide_rows.specs.Wide.{wideMap, wideNumbers, wideWall, wideReach, WideFilled, WideMerged}
 
 -- ---- the numbers of rows of 16-bit numbers

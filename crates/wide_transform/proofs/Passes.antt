@@ -1,6 +1,5 @@
 -- Laws of the passes with 16-bit numbers: which bytes they leave, and the clearances that the numbers say at the end.
 use mathlib.Core.Path.{_≡_, refl, sym, ap, _∙_, subst}
-use mathlib.Core.Logic.{_⊎_, inl, inr}
 use mathlib.Core.List.{List, _++_}
 use Prim.Native.Nat.{ℕ, _+_, _*_, _-_, _/_, _%_, _≤_, _<_}
 use native.Mathlib.Omega.{arith}
@@ -14,7 +13,6 @@ use Rattle.theory.specs.Levels.{clearance}
 use Rattle.theory.proofs.Plate.{length-tabulated, getD-tabulated}
 use Rattle.buffers.proofs.Rooms.{row-room}
 use Rattle.row_arrays.specs.Start.{wallNumber, start}
-use Rattle.row_arrays.specs.Asked.{Held}
 use Rattle.wide_rows.specs.Wide.{wideMap, wideNumbers, wideWall, WideFilled, WideMerged}
 use Rattle.wide_rows.proofs.Wide.{wide-fits, wide-as, wide-bytes}
 use Rattle.distance_transform.specs.Transform.{Whole, Down, Up}

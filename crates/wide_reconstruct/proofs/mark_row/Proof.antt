@@ -4,7 +4,6 @@ use native.Mathlib.Omega.{arith}
 use borrow.Author.Needs.{needs}
 use lib.ListN.{length}
 use Rattle.buffers.proofs.Rooms.{row-room}
-use Rattle.wide_rows.specs.Wide.{wideNumbers}
 use Rattle.wide_rows.proofs.Wide.{room-wide, wide-room}
 use Rattle.wide_reconstruct.proofs.Marks.{row-marked}
 use Rattle.wide_reconstruct.proofs.mark_row.Statement.{statement}

@@ -1,9 +1,9 @@
 -- `load_numbers` fills with the map's numbers: the invariant is `Filled` up to the place reached.
 use mathlib.Core.Path.{sym, _∙_}
-use Prim.Native.Nat.{_+_, _-_, _*_, _≤_}
+use Prim.Native.Nat.{_+_, _-_, _≤_}
 use native.Mathlib.Omega.{arith}
 use borrow.Author.Needs.{needs}
-use lib.ListN.{length, getD}
+use lib.ListN.{getD}
 use Rattle.buffers.specs.Fill.{Filled}
 use Rattle.buffers.proofs.Fill.{filled-none, filled-more, filled-end}
 use Rattle.row_arrays.specs.Rows.{margin}

@@ -1,5 +1,5 @@
 -- `store_row` stores the row's numbers: the invariant is `WideFilled` up to the number reached.
-use Prim.Native.Nat.{_+_, _-_, _*_, _≤_}
+use Prim.Native.Nat.{_+_, _-_, _≤_}
 use native.Mathlib.Omega.{arith}
 use borrow.Author.Needs.{needs}
 use lib.ListN.{getD, length-set}
