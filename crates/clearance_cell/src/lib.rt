@@ -116,7 +116,7 @@ pub fn clearance_of(
         Verdict::Accepted => {
             let head = refusal::head_of(kind, width, height);
             let nearest = nearest_wall(head, relief, level, column as usize, row as usize);
-            CellAnswer::Cleared(Clearance(nearest as u8))
+            CellAnswer::Cleared(Clearance(nearest as u16))
         }
     }
 }

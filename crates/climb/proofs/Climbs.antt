@@ -327,10 +327,12 @@ module _ (c : Climb) (a a′ b b′ marks′ : List ℕ) (run : Run) (reach : Re
 
     pub run-marked : FoundMarks found marks′
     run-marked =
+        let numbers = climbing-numbers p m c a b done g more in
         record {
           wide = g .stands more .level .sides .wide;
           across = climbing-across p m c a b done g;
           down = climbing-down p m c a b done g;
+          reach = omega (arith, is, numbers);
           within = taken .within;
           short = taken .short;
           size = taken .size;

@@ -36,11 +36,12 @@ plungeOf f n d =
 abbrev pub foundPlunges : Found → List ℕ → List Plunge
 foundPlunges f marks = marksTo (f .places .number) (plungeOf f) (f .places .start) marks
 
--- a run of places of a plate with fitting sides, and an array of its marks
+-- a run of places of a plate with fitting sides, of a reach that is listed, and an array of its marks
 pub record FoundMarks (f : Found) (marks : List ℕ) : Type 0 where
   pub wide : 1 ≤ f .region .head .width
   pub across : f .region .column + f .region .head .width ≤ largestSide
   pub down : f .region .row + f .region .head .height ≤ largestSide
+  pub reach : f .reach .0 < largestErosion
   pub within : f .places .start + f .places .number ≤ area (f .region .head)
   pub short : f .places .number < markPlaces
   pub size : length marks ≡ markPlaces

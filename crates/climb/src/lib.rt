@@ -52,7 +52,7 @@ fn reach_of(number: usize) -> Reach
     requires { ⌜ (1 ≤ number) × (number ≤ largestErosion) ⌝ }
     ensures { λ r. ⌜ r .0 ≡ number - 1 ⌝ }
 {
-    let found = Reach::of_clearance(Clearance(number as u8));
+    let found = Reach::of_clearance(Clearance(number as u16));
     match found {
         MaybeReach::OfReach(reach) => reach,
         MaybeReach::NoReach => Reach::MAX,

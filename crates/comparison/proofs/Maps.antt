@@ -17,10 +17,10 @@ use Rattle.refusal.specs.declared.Refusal.{Refusal}
 use Rattle.refusal.specs.declared.Verdict.{Verdict}
 use Rattle.refusal.specs.declared.Verdict.the-variants.{Accepted, Refused}
 use Rattle.refusal.specs.Refusals.{written}
-use Rattle.fields.specs.Fields.{headBytes}
-use Rattle.reading.specs.Reading.{IsReadable, headIn}
+use Rattle.reading.specs.Reading.{IsReadable, headTrials, headIn}
 use Rattle.reading.proofs.Answers.{file-read}
-use Rattle.reading.proofs.Readable.{readable-sound}
+use Rattle.refusal.specs.Refusals.{firstMet}
+use Rattle.reading.proofs.Readable.{readable-head}
 use Rattle.jobs.specs.Calls.{relief, drawVerdict, Drawn}
 use Rattle.comparison.specs.declared.Comparison.{Comparison}
 use Rattle.comparison.specs.declared.Comparison.the-variants.{Same, OtherKind, OtherSize, OtherCell, FirstRefused, SecondRefused}
@@ -117,8 +117,8 @@ module _ (f g a b : List ℕ) (x : Holds f a) (y : Holds g b) where
       go true true false e r = refl
       go true true true e r = maps-same (eqb-true _ _ e) (eqb-true _ _ r)
 
-pub holds-head : (f m : List ℕ) → Holds f m → headBytes ≤ length f
-holds-head f m h = omega (arith, readable-sound f (h .readable) .room)
+pub holds-head : (f m : List ℕ) → Holds f m → firstMet (headTrials f) ≡ Accepted
+holds-head f m h = readable-head f (h .readable)
 
 -- ---- the call
 

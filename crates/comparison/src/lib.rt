@@ -7,7 +7,6 @@ ghost use Prim.Native.Nat.{_≤_};
 ghost use lib.ListN.{length};
 ghost use Rattle.geometry.specs.Plate.{area};
 ghost use Rattle.refusal.specs.Sides.{Sides};
-ghost use Rattle.fields.specs.Fields.{headBytes};
 ghost use Rattle.reading.specs.Reading.{headIn};
 ghost use Rattle.comparison.specs.Comparing.{CompareCall};
 ghost use Rattle.comparison.specs.Drawings.{mapsCompared, platesCompared, Holds, SecondCompared};
@@ -28,21 +27,6 @@ pub enum Comparison {
     OtherCell(Difference),
     FirstRefused(Refusal),
     SecondRefused(Refusal),
-}
-
-// A byte as a side.
-fn side(byte: u8) -> u16
-    ensures { λ r. ⌜ r ≡ byte ⌝ }
-{
-    byte as u16
-}
-
-// The head of a file that holds one.
-fn head_in(file: &[u8]) -> Head
-    requires { ⌜ headBytes ≤ length (now file) ⌝ }
-    ensures { λ r. ⌜ r ≡ headIn (now (file .entry)) ⌝ }
-{
-    refusal::head_of(file[3], side(file[4]), side(file[5]))
 }
 
 // Two maps of one plate, row after row.
@@ -91,7 +75,12 @@ fn compare_second(first: &[u8], second: &[u8], a: &[u8], b: &mut [u8]) -> Compar
     let verdict = jobs::draw(second, b);
     match verdict {
         Verdict::Refused(r) => Comparison::SecondRefused(r),
-        Verdict::Accepted => compare_plates(head_in(first), head_in(second), a, b),
+        Verdict::Accepted => compare_plates(
+            reading::head_in(first),
+            reading::head_in(second),
+            a,
+            b,
+        ),
     }
 }
 

@@ -31,12 +31,16 @@ use Rattle.buffers.proofs.Fill.{row-under}
 use Rattle.refusal.specs.Sides.{Sides}
 use Rattle.reading.specs.declared.MaybePlunge.{MaybePlunge}
 use Rattle.reading.specs.declared.MaybePlunge.the-variants.{OfPlunge, NoPlunge}
-use Rattle.reading.specs.Reading.{plungesUpTo, nthPlunge}
+use Rattle.reading.specs.Reading.{headIn, plungesUpTo, nthPlunge}
+use Rattle.reading.proofs.Answers.{is-plunge, nth-field}
+use Rattle.geometry.specs.declared.Size.{Size}
+use Rattle.geometry.specs.Sizes.{sizeOf}
 use Rattle.reading.specs.Steps.{plungeIf}
 use Rattle.drawing.specs.Reaches.{drawnFrom, centredDepth}
 use Rattle.drawing.specs.Files.{Drawable, reaches, Ranges, centreAt, Of, Raised}
 use Rattle.drawing.proofs.Reaches.{Room, room, le-deepest, deepest-le, placed-here, here-placed, drawn-from-zero, drawn-from-none, drawn-from-step, drawn-from-off, drawn-from-west, drawn-from-east, drawn-from-north, drawn-from-south}
-use Rattle.fields.specs.Fields.{place}
+use Rattle.fields.specs.Fields.{plungeBytes, place}
+use Rattle.fields.proofs.Encoding.{place-next, place-le}
 
 -- ---- a plunge of a file
 
@@ -51,26 +55,35 @@ module _ (p : Head) (n : ℕ) (f : List ℕ) (sides : Sides p) (d : Drawable p n
   centre-within = let a : nthPlunge f i .row < p .height = omega (arith, fit .south) in let b : nthPlunge f i .column < p .width =
       omega (arith, fit .east) in digits-lt a b
 
-  whole : plungeIf f (place p i) ≡ OfPlunge (nthPlunge f i)
-  whole = rw (le-leb _ _ reach-small)
+  -- the field that was read is the file's
+  module _ (m : MaybePlunge) (s : Size) (at : ℕ) (e : m ≡ plungeIf s f at) (z : s ≡ sizeOf p) (a : at ≡ place p i) where
+    whole : m ≡ OfPlunge (nthPlunge f i)
+    whole = e ∙ nth-field f i p s at (d .head) z a ∙ is-plunge (sizeOf (headIn f)) f (place (headIn f) i) reach-small
 
-  -- the plunge that was read is the file's
-  pub told : (m : MaybePlunge) (q : Plunge) → m ≡ plungeIf f (place p i) → m ≡ OfPlunge q → q ≡ nthPlunge f i
-  told m q e g = ap (λ (m : MaybePlunge). or-else m q) (sym g ∙ e ∙ whole)
-    where
-      or-else : MaybePlunge → Plunge → Plunge
-      or-else (OfPlunge o) q = o
-      or-else NoPlunge q = q
+    -- its plunge is the file's
+    pub told : (q : Plunge) → m ≡ OfPlunge q → q ≡ nthPlunge f i
+    told q g = ap (λ (m : MaybePlunge). or-else m q) (sym g ∙ whole)
+      where
+        or-else : MaybePlunge → Plunge → Plunge
+        or-else (OfPlunge o) q = o
+        or-else NoPlunge q = q
+
+    pub told-none : m ≡ NoPlunge → ⊥
+    told-none g = let z : _≡_ {A = ℕ} 0 1 = ap number (sym g ∙ whole) in omega arith
+      where
+        number : MaybePlunge → ℕ
+        number (OfPlunge o) = 1
+        number NoPlunge = 0
 
   pub centre-told : (q : Plunge) → q ≡ nthPlunge f i → centreAt p q < area p
   centre-told q e = subst (λ (q : Plunge). centreAt p q < area p) (sym e) centre-within
 
-  pub told-none : (m : MaybePlunge) → m ≡ plungeIf f (place p i) → m ≡ NoPlunge → ⊥
-  told-none m e g = let z : _≡_ {A = ℕ} 0 1 = ap number (sym g ∙ e ∙ whole) in omega arith
+  -- its field lies in the file
+  pub field-room : place p i + plungeBytes (sizeOf p) ≤ length f
+  field-room = omega (arith, d .room, place-next p i, place-le p (later l))
     where
-      number : MaybePlunge → ℕ
-      number (OfPlunge o) = 1
-      number NoPlunge = 0
+      later : {a b : ℕ} → a < b → suc a ≤ b
+      later h = omega arith
 
 -- ---- stretches
 

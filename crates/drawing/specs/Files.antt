@@ -10,10 +10,11 @@ use Rattle.geometry.specs.declared.Plunge.{Plunge}
 use Rattle.geometry.specs.Forms.{largestReach}
 use Rattle.geometry.specs.Plunges.{fitsPlate}
 use Rattle.fields.specs.Fields.{place}
-use Rattle.reading.specs.Reading.{nthPlunge}
+use Rattle.reading.specs.Reading.{headIn, nthPlunge}
 
 -- a file that holds n plunges after its head, each with its ball on the plate
 pub record Drawable (p : Head) (n : ℕ) (f : List ℕ) : Type 0 where
+  pub head : p ≡ headIn f
   pub room : place p n ≤ length f
   pub fits : (i : ℕ) → i < n → fitsPlate p (nthPlunge f i) ≡ true
 

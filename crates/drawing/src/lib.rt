@@ -1,6 +1,7 @@
 // Drawing a list of plunges into a relief, from the largest reach down: the map grows by one, then the plunges of the next reach are placed.
 // Where the reaches of a list rise, each plunge is read twice; in any other order at most once more for each reach.
 use geometry::Head;
+use geometry::Plunge;
 use geometry::Reach;
 use reading::MaybePlunge;
 use window_filter::Leaf;
@@ -22,16 +23,30 @@ const REACHES: usize = (Reach::MAX.0 as usize) + 1;
 
 // ---- which plunges have a reach
 
-// The reach of a plunge, as a number.
+// Plunge number i of a file.
+fn plunge_at(head: Head, file: &[u8], count: usize, i: usize) -> Plunge
+    requires { ⌜ Sides head × Drawable head count (now file) × (i < count) ⌝ }
+    ensures { λ r. ⌜ r ≡ nthPlunge (now (file .entry)) i ⌝ }
+{
+    let maybe = reading::plunge_at(head.size(), file, fields::place(head, i));
+    match maybe {
+        MaybePlunge::OfPlunge(q) => q,
+        MaybePlunge::NoPlunge => Plunge {
+            column: 0,
+            row: 0,
+            reach: Reach(0),
+            depth: 0,
+        },
+    }
+}
+
+// Its reach, as a number.
 fn reach_at(head: Head, file: &[u8], count: usize, i: usize) -> usize
     requires { ⌜ Sides head × Drawable head count (now file) × (i < count) ⌝ }
     ensures { λ r. ⌜ r ≡ nthPlunge (now (file .entry)) i .reach .0 ⌝ }
 {
-    let maybe = reading::plunge_at(file, fields::place(head, i));
-    match maybe {
-        MaybePlunge::OfPlunge(q) => q.reach.0 as usize,
-        MaybePlunge::NoPlunge => 0,
-    }
+    let q = plunge_at(head, file, count, i);
+    q.reach.0 as usize
 }
 
 // Where a stretch starts: where it did, or here if there was none.
@@ -72,16 +87,11 @@ fn place_one(head: Head, file: &[u8], count: usize, i: usize, reach: usize, map:
     ensures { λ _. ⌜ Raised head (now (file .entry)) reach i (i + 1) (now (map .entry)) (now (map .exit)) ⌝ }
 {
     let width = head.width as usize;
-    let maybe = reading::plunge_at(file, fields::place(head, i));
-    match maybe {
-        MaybePlunge::OfPlunge(q) => {
-            if (q.reach.0 as usize) == reach {
-                let n = (q.row as usize) * width + (q.column as usize);
-                let old = map[n];
-                map[n] = window::higher(old, q.depth);
-            }
-        }
-        MaybePlunge::NoPlunge => {}
+    let q = plunge_at(head, file, count, i);
+    if (q.reach.0 as usize) == reach {
+        let n = (q.row as usize) * width + (q.column as usize);
+        let old = map[n];
+        map[n] = window::higher(old, q.depth);
     }
 }
 

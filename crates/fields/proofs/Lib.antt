@@ -1,2 +1,3 @@
 pub mod Splice
 pub mod Encoding
+pub mod Sized

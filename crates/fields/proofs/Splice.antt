@@ -1,15 +1,17 @@
--- Laws of what a function writes to a buffer at a place: nothing, six or seven bytes, and one thing after another.
+-- Laws of what a function writes to a buffer at a place: nothing, a field, and one thing after another.
 use mathlib.Core.Path.{_≡_, ap, _∙_}
 use mathlib.Core.List.{List, [], _∷_, _++_, append-assoc, append-nil}
-use Prim.Native.Nat.{ℕ, _+_, _≤_, _/_, _%_}
+use Prim.Native.Nat.{ℕ, suc, _+_, _≤_, _/_, _%_}
 use native.Mathlib.Omega.{arith}
-use native.Mathlib.Nat.{add-zero, add-assoc, zero-add}
-use native.Mathlib.Numerals.{add-one, add-two, add-three, add-four, add-five, add-six}
+use native.Mathlib.Nat.{add-zero, add-assoc, zero-add, add-suc}
+use native.Mathlib.Numerals.{add-one, add-two, add-three, add-four, add-five, add-six, add-seven, add-eight}
 use lib.ListN.{length, take, drop, set, length-append, length-drop, take-append-drop}
 use lib.Seq.{sets-eq, take-at, drop-at, drop-drop, length-take-le}
 use Rattle.geometry.specs.declared.Head.{Head}
+use Rattle.geometry.specs.declared.Plunge.{Plunge}
+use Rattle.geometry.specs.declared.Size.the-variants.{Small, Large}
 use Rattle.geometry.specs.Forms.{kindByte}
-use Rattle.fields.specs.Fields.{headTag, headSize, headBytes, plungeBytes, endTag, endSize, headField, endField}
+use Rattle.fields.specs.Fields.{headTag, headSize, headBytes, headFieldOf, plungeTag, plungeSize, plungeBytes, plungeField, endTag, endSize, endBytes, endField}
 use Rattle.fields.specs.Writing.{spliced}
 
 pub splice-nil : (old : List ℕ) (at : ℕ) → spliced old at [] ≡ old
@@ -58,22 +60,46 @@ splice-take old at bs h =
 
 -- ---- stores in a row
 
-pub six : (l : List ℕ) (a b c d e f : ℕ) → headBytes ≤ length l
-    → set (set (set (set (set (set l 0 a) 1 b) 2 c) 3 d) 4 e) 5 f ≡ spliced l 0 (a ∷ b ∷ c ∷ d ∷ e ∷ f ∷ [])
-six l a b c d e f h = sets-eq (a ∷ b ∷ c ∷ d ∷ e ∷ f ∷ []) l 0 (omega arith)
+add-nine : (n : ℕ) → n + 9 ≡ suc (suc (suc (suc (suc (suc (suc (suc (suc n))))))))
+add-nine n = add-suc n 8 ∙ ap suc (add-eight n)
 
 -- a head's field, its kind's byte by what it is equal to
-pub six-head : (l : List ℕ) (p : Head) (k : ℕ) → headBytes ≤ length l → k ≡ kindByte (p .kind)
-    → set (set (set (set (set (set l 0 headTag) 1 0) 2 headSize) 3 k) 4 (p .width)) 5 (p .height) ≡ spliced l 0 (headField p)
-six-head l p k h e = rw e (six l headTag 0 headSize (kindByte (p .kind)) (p .width) (p .height) h)
+pub six-head : (l : List ℕ) (p : Head) (t k z : ℕ) → headBytes Small ≤ length l → t ≡ headTag Small → z ≡ headSize Small → k ≡ kindByte (p .kind)
+    → set (set (set (set (set (set l 0 t) 1 0) 2 z) 3 k) 4 (p .width)) 5 (p .height) ≡ spliced l 0 (headFieldOf Small p)
+six-head l p t k z h x y e = rw (x, y, e) (sets-eq (headFieldOf Small p) l 0 (omega arith))
 
-module _ (l : List ℕ) (i : ℕ) (h : i + plungeBytes ≤ length l) where
-  pub seven : (a b c d e f g : ℕ)
+pub eight-head : (l : List ℕ) (p : Head) (t k z a b c d : ℕ) → headBytes Large ≤ length l → t ≡ headTag Large → z ≡ headSize Large → k ≡ kindByte (p .kind)
+    → a ≡ p .width / 256 → b ≡ p .width % 256 → c ≡ p .height / 256 → d ≡ p .height % 256
+    → set (set (set (set (set (set (set (set l 0 t) 1 0) 2 z) 3 k) 4 a) 5 b) 6 c) 7 d ≡ spliced l 0 (headFieldOf Large p)
+eight-head l p t k z a b c d h x y e u v w o = rw (x, y, e, u, v, w, o) (sets-eq (headFieldOf Large p) l 0 (omega arith))
+
+module _ (l : List ℕ) (i : ℕ) where
+  pub seven : (a b c d e f g : ℕ) → i + 7 ≤ length l
       → set (set (set (set (set (set (set l i a) (i + 1) b) (i + 2) c) (i + 3) d) (i + 4) e) (i + 5) f) (i + 6) g ≡ spliced l i (a ∷ b ∷ c ∷ d ∷ e ∷ f ∷ g ∷ [])
-  seven a b c d e f g =
+  seven a b c d e f g h =
       rw (add-one i, add-two i, add-three i, add-four i, add-five i, add-six i) (sets-eq (a ∷ b ∷ c ∷ d ∷ e ∷ f ∷ g ∷ []) l i h)
 
+  -- a plunge's field of a small plate
+  pub seven-plunge : (q : Plunge) (t z : ℕ) → i + plungeBytes Small ≤ length l → t ≡ plungeTag Small → z ≡ plungeSize Small
+      → set (set (set (set (set (set (set l i t) (i + 1) 0) (i + 2) z) (i + 3) (q .column)) (i + 4) (q .row)) (i + 5) (q .reach .0)) (i + 6) (q .depth)
+      ≡ spliced l i (plungeField Small q)
+  seven-plunge q t z h x y = rw (x, y) (seven 2 0 4 (q .column) (q .row) (q .reach .0) (q .depth) h)
+
+  -- of a large plate
+  pub ten-plunge : (q : Plunge) (t z a b c d e f : ℕ) → i + plungeBytes Large ≤ length l → t ≡ plungeTag Large → z ≡ plungeSize Large
+      → a ≡ q .column / 256 → b ≡ q .column % 256 → c ≡ q .row / 256 → d ≡ q .row % 256 → e ≡ q .reach .0 / 256 → f ≡ q .reach .0 % 256
+      → set (set (set (set (set (set (set (set (set (set l i t) (i + 1) 0) (i + 2) z) (i + 3) a) (i + 4) b) (i + 5) c) (i + 6) d) (i + 7) e) (i + 8) f) (i + 9)
+      (q .depth)
+      ≡ spliced l i (plungeField Large q)
+  ten-plunge q t z a b c d e f h x y u v w o m n =
+      rw (add-one i, add-two i, add-three i, add-four i, add-five i, add-six i, add-seven i, add-eight i, add-nine i, x, y, u, v, w, o, m, n)
+      (sets-eq (plungeField Large q) l i h)
+
   -- an end field, its four bytes by what they are equal to
-  pub seven-end : (n a b c d : ℕ) → a ≡ n / 65536 / 256 % 256 → b ≡ n / 65536 % 256 → c ≡ n % 65536 / 256 % 256 → d ≡ n % 65536 % 256
+  pub seven-end : (n a b c d : ℕ) → i + endBytes ≤ length l → a ≡ n / 65536 / 256 % 256 → b ≡ n / 65536 % 256 → c ≡ n % 65536 / 256 % 256 → d ≡ n % 65536 % 256
       → set (set (set (set (set (set (set l i endTag) (i + 1) 0) (i + 2) endSize) (i + 3) a) (i + 4) b) (i + 5) c) (i + 6) d ≡ spliced l i (endField n)
-  seven-end n a b c d x y z w = rw (x, y, z, w) (seven endTag 0 endSize (n / 65536 / 256 % 256) (n / 65536 % 256) (n % 65536 / 256 % 256) (n % 65536 % 256))
+  seven-end n a b c d h x y z w =
+      let first : a ≡ n / 65536 % 65536 / 256 = omega arith in
+      let second : b ≡ n / 65536 % 65536 % 256 = omega arith in
+      let third : c ≡ n % 65536 / 256 = omega arith in
+      rw (first, second, third, w) (seven endTag 0 endSize (n / 65536 % 65536 / 256) (n / 65536 % 65536 % 256) (n % 65536 / 256) (n % 65536 % 256) h)

@@ -3,3 +3,4 @@ pub mod Plane
 pub mod Plate
 pub mod Forms
 pub mod Plunges
+pub mod Sizes

@@ -5,6 +5,7 @@ ghost use lib.IntN.{pos};
 ghost use Rattle.geometry.specs.Plane.{cell, gap, dist};
 ghost use Rattle.geometry.specs.Forms.{kindByte, kindOf, reachOf, reachOfClearance};
 ghost use Rattle.geometry.specs.Plunges.{covers, inside, fitsPlate};
+ghost use Rattle.geometry.specs.Sizes.{sizeOf};
 
 // The two kinds of ball: a diamond's cells share sides, a square's also corners.
 pub enum Kind {
@@ -18,6 +19,12 @@ pub enum MaybeKind {
     NoKind,
 }
 
+// The size of a plate: small if both sides are at most 240, and then its numbers are bytes in a file; else two bytes each.
+pub enum Size {
+    Small,
+    Large,
+}
+
 // What a list says of its plate.
 pub struct Head {
     pub kind: Kind,
@@ -26,10 +33,10 @@ pub struct Head {
 }
 
 // The distance from a cell to the nearest cell outside its shape.
-pub struct Clearance(pub u8);
+pub struct Clearance(pub u16);
 
 // The radius of a ball: of a clearance above 0, one less.
-pub struct Reach(pub u8);
+pub struct Reach(pub u16);
 
 // The reach that a number stands for, if it stands for one.
 pub enum MaybeReach {
@@ -43,6 +50,23 @@ pub struct Plunge {
     pub row: u16,
     pub reach: Reach,
     pub depth: u8,
+}
+
+// Both sides of a small plate are at most this.
+pub const SMALL_SIDE: u16 = 240;
+
+impl Head {
+    // The size of the plate.
+    pub fn size(self) -> Size
+        ensures { λ r. ⌜ r ≡ sizeOf self ⌝ }
+    {
+        if self.width <= SMALL_SIDE {
+            if self.height <= SMALL_SIDE {
+                return Size::Small;
+            }
+        }
+        Size::Large
+    }
 }
 
 // ---- kinds and distance
@@ -103,12 +127,12 @@ impl Kind {
 impl Reach {
     pub const MAX: Reach = Reach(119);
 
-    // The reach that a byte of a file stands for; above the largest it stands for none.
-    pub fn read(byte: u8) -> MaybeReach
-        ensures { λ r. ⌜ r ≡ reachOf byte ⌝ }
+    // The reach that a number of a file stands for; above the largest it stands for none.
+    pub fn read(number: u16) -> MaybeReach
+        ensures { λ r. ⌜ r ≡ reachOf number ⌝ }
     {
-        if byte <= Reach::MAX.0 {
-            MaybeReach::OfReach(Reach(byte))
+        if number <= Reach::MAX.0 {
+            MaybeReach::OfReach(Reach(number))
         } else {
             MaybeReach::NoReach
         }
@@ -152,7 +176,7 @@ impl Plunge {
     pub fn fits_plate(self, head: Head) -> bool
         ensures { λ r. ⌜ r ≡ fitsPlate head self ⌝ }
     {
-        let reach = self.reach.0 as u16;
+        let reach = self.reach.0;
         if reach <= self.column {
             if reach <= self.row {
                 if (self.column as u32) + (reach as u32) < (head.width as u32) {

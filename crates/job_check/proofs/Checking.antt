@@ -7,16 +7,19 @@ use Prim.Native.Nat.{ℕ, suc, _+_, _*_, _≤_, _<_}
 use native.Mathlib.Omega.{arith}
 use borrow.Author.Tests.{eq-eqb, eqb-true}
 use lib.Dec.{eqb}
-use lib.ListN.{length, drop, getD}
+use lib.ListN.{length, drop, getD, length-append}
 use Rattle.geometry.specs.declared.Head.{Head}
 use Rattle.geometry.specs.declared.Plunge.{Plunge}
+use Rattle.geometry.specs.declared.Size.{Size}
+use Rattle.geometry.specs.declared.Size.the-variants.{Small, Large}
+use Rattle.geometry.specs.Sizes.{sizeOf}
 use Rattle.geometry.specs.Plate.{area}
 use Rattle.theory.specs.Listing.{listing}
 use Rattle.refusal.specs.declared.Verdict.the-variants.{Accepted, Refused}
 use Rattle.refusal.specs.Refusals.{largestSide, largestErosion}
-use Rattle.fields.specs.Fields.{four, headField, plungeField, plungeFields, endField, encoded, headBytes, plungeBytes, place}
-use Rattle.fields.proofs.Encoding.{encoded-injective, plungeFields-length}
-use Rattle.reading.proofs.Readable.{readable-encoded, readable-sound, length-plungesIn}
+use Rattle.fields.specs.Fields.{four, headField, plungeField, plungeFields, endTag, encoded, place}
+use Rattle.fields.proofs.Encoding.{field-length, head-length, bytes-none, fields-place, place-same, plunge-injective, encoded-parts, encoded-injective}
+use Rattle.reading.proofs.Readable.{readable-encoded, readable-sound, length-plungesIn, encoded-fields}
 use Rattle.reading.specs.Reading.{IsReadable, headIn, plungesIn, total}
 use Rattle.listing_pass.specs.declared.Progress.{Progress}
 use Rattle.listing_pass.specs.declared.Pass.the-variants.{Compare}
@@ -69,62 +72,76 @@ common-split (a ∷ x) (b ∷ y) u v e = go (common-split x y u v (omega arith))
 
 -- ---- two lists of plunges
 
--- what one list of plunges, with an end field behind it, has in common with another
-abbrev body : List Plunge → List ℕ → List ℕ
-body qs e = plungeFields qs ++ (3 ∷ e)
+-- a list of plunges with an end field behind it
+abbrev body : Size → List Plunge → List ℕ → List ℕ
+body s [] e = endTag ∷ e
+body s (q ∷ qs) e = plungeField s q ++ body s qs e
+
+body-is : (s : Size) (qs : List Plunge) (e : List ℕ) → plungeFields s qs ++ (endTag ∷ e) ≡ body s qs e
+body-is s [] e = refl
+body-is s (q ∷ qs) e = append-assoc (plungeField s q) (plungeFields s qs) (endTag ∷ e) ∙ ap (λ (l : List ℕ). plungeField s q ++ l) (body-is s qs e)
 
 -- unlike lists: the other's end field changes nothing, and it is not that one was met to its end and both have one length
-pub record Unlike (qs os : List Plunge) (e e′ : List ℕ) : Type 0 where
-  pub same : common (body qs e) (body os e′) ≡ common (body qs e) (plungeFields os)
-  pub short : common (body qs e) (plungeFields os) ≡ length (plungeFields os) → length qs ≡ length os → ⊥
+pub record Unlike (s : Size) (qs os : List Plunge) (e e′ : List ℕ) : Type 0 where
+  pub same : common (body s qs e) (body s os e′) ≡ common (body s qs e) (plungeFields s os)
+  pub short : common (body s qs e) (plungeFields s os) ≡ length (plungeFields s os) → length qs ≡ length os → ⊥
 
-field-equal : (q o : Plunge) → plungeField q ≡ plungeField o → q ≡ o
-field-equal q o h =
-    ap (λ (n : ℕ). record { column = n; row = q .row; reach = q .reach; depth = q .depth }) (ap (λ (l : List ℕ). head-of (tail-of (tail-of (tail-of l)))) h)
-    ∙ ap (λ (n : ℕ). record { column = o .column; row = n; reach = q .reach; depth = q .depth })
-    (ap (λ (l : List ℕ). head-of (tail-of (tail-of (tail-of (tail-of l))))) h)
-    ∙ ap (λ (n : ℕ). record { column = o .column; row = o .row; reach = record { 0 = n }; depth = q .depth })
-    (ap (λ (l : List ℕ). head-of (tail-of (tail-of (tail-of (tail-of (tail-of l)))))) h)
-    ∙ ap (λ (n : ℕ). record { column = o .column; row = o .row; reach = o .reach; depth = n })
-    (ap (λ (l : List ℕ). head-of (tail-of (tail-of (tail-of (tail-of (tail-of (tail-of l))))))) h)
-
-pub first-unlike : (qs os : List Plunge) (e e′ : List ℕ) → (qs ≡ os) ⊎ Unlike qs os e e′
-first-unlike [] [] e e′ = inl refl
-first-unlike [] (o ∷ os) e e′ = inr (record { same = refl; short = λ a b. absurd (omega arith) })
-first-unlike (q ∷ qs) [] e e′ = inr (record { same = refl; short = λ a b. absurd (omega arith) })
-first-unlike (q ∷ qs) (o ∷ os) e e′ =
-    go (common-split (plungeField q) (plungeField o) (body qs e) (body os e′) refl)
-    (common-split (plungeField q) (plungeField o) (body qs e) (plungeFields os) refl) (first-unlike qs os e e′)
+pub first-unlike : (s : Size) (qs os : List Plunge) (e e′ : List ℕ) → (qs ≡ os) ⊎ Unlike s qs os e e′
+first-unlike s [] [] e e′ = inl refl
+first-unlike Small [] (o ∷ os) e e′ = inr (record { same = refl; short = λ a b. absurd (omega arith) })
+first-unlike Large [] (o ∷ os) e e′ = inr (record { same = refl; short = λ a b. absurd (omega arith) })
+first-unlike Small (q ∷ qs) [] e e′ = inr (record { same = refl; short = λ a b. absurd (omega arith) })
+first-unlike Large (q ∷ qs) [] e e′ = inr (record { same = refl; short = λ a b. absurd (omega arith) })
+first-unlike s (q ∷ qs) (o ∷ os) e e′ =
+    go (common-split x y (body s qs e) (body s os e′) long) (common-split x y (body s qs e) (plungeFields s os) long) (first-unlike s qs os e e′)
   where
-    go : Alike (plungeField q) (plungeField o) (body qs e) (body os e′) ⊎ Apart (plungeField q) (plungeField o) (body qs e) (body os e′)
-        → Alike (plungeField q) (plungeField o) (body qs e) (plungeFields os) ⊎ Apart (plungeField q) (plungeField o) (body qs e) (plungeFields os)
-        → (qs ≡ os) ⊎ Unlike qs os e e′ → (q ∷ qs ≡ o ∷ os) ⊎ Unlike (q ∷ qs) (o ∷ os) e e′
+    x : List ℕ
+    x = plungeField s q
+
+    y : List ℕ
+    y = plungeField s o
+
+    long : length x ≡ length y
+    long = field-length s q ∙ sym (field-length s o)
+
+    same-plunge : x ≡ y → q ≡ o
+    same-plunge h = plunge-injective s q o [] [] (ap (λ (l : List ℕ). l ++ []) h) .0
+
+    go : Alike x y (body s qs e) (body s os e′) ⊎ Apart x y (body s qs e) (body s os e′)
+        → Alike x y (body s qs e) (plungeFields s os) ⊎ Apart x y (body s qs e) (plungeFields s os)
+        → (qs ≡ os) ⊎ Unlike s qs os e e′ → (q ∷ qs ≡ o ∷ os) ⊎ Unlike s (q ∷ qs) (o ∷ os) e e′
     go (inl a) (inr b) m = absurd (b .unlike (a .equal))
     go (inr a) (inl b) m = absurd (a .unlike (b .equal))
-    go (inr a) (inr b) m = inr (record { same = a .stops ∙ sym (b .stops); short = λ h l. absurd (omega (arith, b .short, b .stops, h)) })
-    go (inl a) (inl b) (inl s) = inl (ap₂ (λ (n : Plunge) (l : List Plunge). n ∷ l) (field-equal q o (a .equal)) s)
-    go (inl a) (inl b) (inr u) = inr (record {
-      same = a .more ∙ ap (λ (n : ℕ). plungeBytes + n) (u .same) ∙ sym (b .more);
-      short =
-          λ h l. u .short (omega (arith, b .more, h)) (omega (arith, l));
-    })
+    go (inr a) (inr b) m =
+        inr (record {
+          same = a .stops ∙ sym (b .stops);
+          short = λ h l. absurd (omega (arith, b .short, b .stops, h, length-append y (plungeFields s os), long));
+        })
+    go (inl a) (inl b) (inl t) = inl (ap₂ (λ (n : Plunge) (l : List Plunge). n ∷ l) (same-plunge (a .equal)) t)
+    go (inl a) (inl b) (inr u) =
+        inr (record {
+          same = a .more ∙ ap (λ (n : ℕ). length x + n) (u .same) ∙ sym (b .more);
+          short = λ h l. u .short (omega (arith, b .more, h, length-append y (plungeFields s os), long)) (omega (arith, l));
+        })
 
 -- ---- two files of one head
 
 module _ (p : Head) (qs os : List Plunge) where
-  -- past its head a file is its plunges and its end
-  past-head : (l : List Plunge) → drop headBytes (encoded p l) ≡ body l (0 ∷ 4 ∷ four (length l))
-  unfolding encoded
-  past-head l = ap (drop headBytes) (append-assoc (headField p) (plungeFields l) (endField (length l)))
+  abbrev s : Size
+  s = sizeOf p
 
-  whole : (l : List Plunge) → encoded p l ≡ headField p ++ body l (0 ∷ 4 ∷ four (length l))
-  unfolding encoded
-  whole l = append-assoc (headField p) (plungeFields l) (endField (length l))
+  -- past its head a file is its plunges and its end
+  past-head : (l : List Plunge) → drop (place p 0) (encoded p l) ≡ body s l (0 ∷ 4 ∷ four (length l))
+  past-head l = encoded-fields p l ∙ body-is s l (0 ∷ 4 ∷ four (length l))
+
+  whole : (l : List Plunge) → encoded p l ≡ headField p ++ body s l (0 ∷ 4 ∷ four (length l))
+  whole l = encoded-parts p l ∙ ap (λ (o : List ℕ). headField p ++ o) (body-is s l (0 ∷ 4 ∷ four (length l)))
 
   -- equal lists: the plunges are met to their end
-  pub met-all : qs ≡ os → common (drop headBytes (encoded p qs)) (plungeFields os) ≡ length (plungeFields os)
-  met-all e = ap (λ (l : List Plunge). common (drop headBytes (encoded p l)) (plungeFields os)) e ∙ ap (λ (l : List ℕ). common l (plungeFields os))
-      (past-head os) ∙ go (plungeFields os) _
+  pub met-all : qs ≡ os → common (drop (place p 0) (encoded p qs)) (plungeFields s os) ≡ length (plungeFields s os)
+  met-all e =
+      ap (λ (l : List Plunge). common (drop (place p 0) (encoded p l)) (plungeFields s os)) e
+      ∙ ap (λ (l : List ℕ). common l (plungeFields s os)) (encoded-fields p os) ∙ go (plungeFields s os) _
     where
       go : (l e : List ℕ) → common (l ++ e) l ≡ length l
       go [] [] = refl
@@ -132,21 +149,21 @@ module _ (p : Head) (qs os : List Plunge) where
       go (a ∷ l) e = rw (eq-eqb a a refl) (ap suc (go l e))
 
   -- unlike lists: the first unlike byte stands among the plunges, or where the other's end
-  pub met-some : Unlike qs os (0 ∷ 4 ∷ four (length qs)) (0 ∷ 4 ∷ four (length os))
-      → common (encoded p qs) (encoded p os) ≡ headBytes + common (drop headBytes (encoded p qs)) (plungeFields os)
+  pub met-some : Unlike s qs os (0 ∷ 4 ∷ four (length qs)) (0 ∷ 4 ∷ four (length os))
+      → common (encoded p qs) (encoded p os) ≡ place p 0 + common (drop (place p 0) (encoded p qs)) (plungeFields s os)
   met-some u =
       ap₂ common (whole qs) (whole os)
       ∙ go (common-split (headField p) (headField p) _ _ refl)
-      ∙ ap (λ (n : ℕ). headBytes + n) (u .same ∙ sym (ap (λ (l : List ℕ). common l (plungeFields os)) (past-head qs)))
+      ∙ ap (λ (n : ℕ). place p 0 + n) (u .same ∙ sym (ap (λ (l : List ℕ). common l (plungeFields s os)) (past-head qs)))
     where
       x : List ℕ
-      x = body qs (0 ∷ 4 ∷ four (length qs))
+      x = body s qs (0 ∷ 4 ∷ four (length qs))
 
       y : List ℕ
-      y = body os (0 ∷ 4 ∷ four (length os))
+      y = body s os (0 ∷ 4 ∷ four (length os))
 
-      go : Alike (headField p) (headField p) x y ⊎ Apart (headField p) (headField p) x y → common (headField p ++ x) (headField p ++ y) ≡ headBytes + common x y
-      go (inl a) = a .more
+      go : Alike (headField p) (headField p) x y ⊎ Apart (headField p) (headField p) x y → common (headField p ++ x) (headField p ++ y) ≡ place p 0 + common x y
+      go (inl a) = a .more ∙ ap (λ (n : ℕ). n + common x y) (head-length s p ∙ omega (arith, bytes-none s))
       go (inr a) = absurd (a .unlike refl)
 
 -- ---- what the check finds
@@ -160,9 +177,18 @@ pub record Untidy (f : List ℕ) (at : ℕ) (like : Bool) : Type 0 where
   pub first : common f (tidied f) ≡ at
   pub told : like ≡ true → at ≡ place (headIn f) (total f) → ⊥
 
+-- where the plunges of a file begin, its bytes from there on, and the fields of its tidied list
+abbrev start : List ℕ → ℕ
+start f = place (headIn f) 0
+
+abbrev behind : List ℕ → List ℕ
+behind f = drop (start f) f
+
+abbrev tidyFields : List ℕ → List ℕ
+tidyFields f = plungeFields (sizeOf (headIn f)) (tidiedPlunges f)
+
 module _ (f : List ℕ) (ok : IsReadable f) (bytes : (i : ℕ) → getD f i 0 < 256) (at : ℕ) (like : Bool)
-    (a : at ≡ headBytes + common (drop headBytes f) (plungeFields (tidiedPlunges f)))
-    (b : like ≡ eqb (common (drop headBytes f) (plungeFields (tidiedPlunges f))) (length (plungeFields (tidiedPlunges f)))) where
+    (a : at ≡ start f + common (behind f) (tidyFields f)) (b : like ≡ eqb (common (behind f) (tidyFields f)) (length (tidyFields f))) where
   is : f ≡ encoded (headIn f) (plungesIn f)
   is = readable-encoded f ok bytes
 
@@ -170,42 +196,44 @@ module _ (f : List ℕ) (ok : IsReadable f) (bytes : (i : ℕ) → getD f i 0 < 
   count = length-plungesIn f
 
   pub found : (like ≡ true × (at ≡ place (headIn f) (total f)) × Tidy f) ⊎ Untidy f at like
-  found = go (first-unlike (plungesIn f) (tidiedPlunges f) _ _)
+  found = go (first-unlike (sizeOf (headIn f)) (plungesIn f) (tidiedPlunges f) _ _)
     where
-      same-place : common (drop headBytes f) (plungeFields (tidiedPlunges f)) ≡ common (drop headBytes (encoded (headIn f) (plungesIn f)))
-          (plungeFields (tidiedPlunges f))
-      same-place = ap (λ (l : List ℕ). common (drop headBytes l) (plungeFields (tidiedPlunges f))) is
+      same-place : common (behind f) (tidyFields f) ≡ common (drop (start f) (encoded (headIn f) (plungesIn f))) (tidyFields f)
+      same-place = ap (λ (l : List ℕ). common (drop (start f) l) (tidyFields f)) is
 
       apart : (plungesIn f ≡ tidiedPlunges f → ⊥) → (t : Bool) → alike f (tidied f) ≡ t → t ≡ false
       apart h false e = refl
       apart h true e = absurd (h (encoded-injective (headIn f) (headIn f) (plungesIn f) (tidiedPlunges f) (sym is ∙ alike-equal f (tidied f) e) .1))
 
-      go : (plungesIn f ≡ tidiedPlunges f) ⊎ Unlike (plungesIn f) (tidiedPlunges f) (0 ∷ 4 ∷ four (length (plungesIn f)))
+      -- met to the end of the tidied list
+      ends : common (behind f) (tidyFields f) ≡ length (tidyFields f) → at ≡ place (headIn f) (length (tidiedPlunges f))
+      ends e = a ∙ ap (λ (n : ℕ). start f + n) e ∙ fields-place (headIn f) (tidiedPlunges f)
+
+      go : (plungesIn f ≡ tidiedPlunges f) ⊎ Unlike (sizeOf (headIn f)) (plungesIn f) (tidiedPlunges f) (0 ∷ 4 ∷ four (length (plungesIn f)))
           (0 ∷ 4 ∷ four (length (tidiedPlunges f)))
           → (like ≡ true × (at ≡ place (headIn f) (total f)) × Tidy f) ⊎ Untidy f at like
       go (inl e) =
           inl (
             b ∙ eq-eqb _ _ all,
-            omega (arith, a, all, plungeFields-length (tidiedPlunges f), ap length e, count),
+            ends all ∙ ap (place (headIn f)) (sym (ap length e) ∙ count),
             record { is = alike-same f (tidied f) (is ∙ ap (encoded (headIn f)) e) },
           )
         where
-          all : common (drop headBytes f) (plungeFields (tidiedPlunges f)) ≡ length (plungeFields (tidiedPlunges f))
+          all : common (behind f) (tidyFields f) ≡ length (tidyFields f)
           all = same-place ∙ met-all (headIn f) (plungesIn f) (tidiedPlunges f) e
       go (inr u) =
           inr (record {
             unlike = apart ne (alike f (tidied f)) refl;
-            first = ap (λ (l : List ℕ). common l (tidied f)) is ∙ met-some (headIn f) (plungesIn f) (tidiedPlunges f) u ∙ sym
-                (a ∙ ap (λ (n : ℕ). headBytes + n) same-place);
-            told = λ h l. u .short (sym there ∙ met h) (omega (arith, l, a, met h, plungeFields-length (tidiedPlunges f), count));
+            first =
+                ap (λ (l : List ℕ). common l (tidied f)) is ∙ met-some (headIn f) (plungesIn f) (tidiedPlunges f) u
+                ∙ sym (a ∙ ap (λ (n : ℕ). start f + n) same-place);
+            told = λ h l. u .short (sym there ∙ met h) (count ∙ sym (place-same (headIn f) (sym (ends (met h)) ∙ l)));
           })
         where
-          there : common (drop headBytes f) (plungeFields (tidiedPlunges f)) ≡ common (body (plungesIn f) (0 ∷ 4 ∷ four (length (plungesIn f))))
-              (plungeFields (tidiedPlunges f))
-          there = same-place ∙ ap (λ (l : List ℕ). common l (plungeFields (tidiedPlunges f)))
-              (past-head (headIn f) (plungesIn f) (tidiedPlunges f) (plungesIn f))
+          there : common (behind f) (tidyFields f) ≡ common (body (sizeOf (headIn f)) (plungesIn f) (0 ∷ 4 ∷ four (length (plungesIn f)))) (tidyFields f)
+          there = same-place ∙ ap (λ (l : List ℕ). common l (tidyFields f)) (past-head (headIn f) (plungesIn f) (tidiedPlunges f) (plungesIn f))
 
-          met : like ≡ true → common (drop headBytes f) (plungeFields (tidiedPlunges f)) ≡ length (plungeFields (tidiedPlunges f))
+          met : like ≡ true → common (behind f) (tidyFields f) ≡ length (tidyFields f)
           met h = eqb-true _ _ (sym b ∙ h)
 
           ne : plungesIn f ≡ tidiedPlunges f → ⊥
@@ -216,33 +244,35 @@ module _ (f : List ℕ) (ok : IsReadable f) (bytes : (i : ℕ) → getD f i 0 < 
 module _ (p : Head) (n : ℕ) (f m a b : List ℕ) (q : Comparable p n f m a b) where
   -- what the pass asks
   pub compare-asks : (out : List ℕ)
-      → Listable p m a b × Room Compare (headBytes + plungeBytes * length (listing p largestErosion m)) out
+      → Listable p m a b × Room Compare (place p (length (listing p largestErosion m))) out
   compare-asks out =
       let s = readable-sound f (q .readable) in (
         record { sides = subst Sides (sym (q .head)) (s .sides); relief = q .relief; first = q .first; second = q .second },
         (λ e. let z : _≡_ {A = ℕ} 0 1 = cc in absurd (omega arith)),
       )
 
-  module _ (old new : List ℕ) (r : Progress) (t : Sent Compare f headBytes (plungeFields (listing p largestErosion m)) old new r) where
+  module _ (old new : List ℕ) (r : Progress)
+      (t : Sent Compare f (place p 0) (plungeFields (sizeOf p) (listing p largestErosion m)) old new r) where
     finds : (r .like ≡ true × (r .at ≡ place (headIn f) (total f)) × Tidy f) ⊎ Untidy f (r .at) (r .like)
     finds =
         found f (q .readable) (q .bytes) (r .at) (r .like)
-        (t .place ∙ ap (λ (qs : List Plunge). headBytes + common (drop headBytes f) (plungeFields qs)) (q .lists))
-        (t .like ∙ ap (λ (qs : List Plunge). eqb (common (drop headBytes f) (plungeFields qs)) (length (plungeFields qs))) (q .lists))
+        (t .place ∙ ap₂ (λ (h : Head) (qs : List Plunge). place h 0 + common (drop (place h 0) f) (plungeFields (sizeOf h) qs)) (q .head) (q .lists))
+        (t .like ∙ ap₂ (λ (h : Head) (qs : List Plunge). eqb (common (drop (place h 0) f) (plungeFields (sizeOf h) qs)) (length (plungeFields (sizeOf h) qs)))
+        (q .head) (q .lists))
 
     pub compared-like : r .like ≡ true → r .at ≡ place p n → Compared f Accepted
     compared-like l e = go finds
       where
         go : (r .like ≡ true × (r .at ≡ place (headIn f) (total f)) × Tidy f) ⊎ Untidy f (r .at) (r .like) → Compared f Accepted
         go (inl x) = rw (x .2 .is)
-        go (inr x) = absurd (x .told l (e ∙ ap (place (headIn f)) (q .count)))
+        go (inr x) = absurd (x .told l (e ∙ ap₂ place (q .head) (q .count)))
 
     pub compared-unlike : (r .like ≡ true → r .at ≡ place p n → ⊥) → Compared f (Refused (record { number = 12; place = r .at }))
     compared-unlike h = go finds
       where
         go : (r .like ≡ true × (r .at ≡ place (headIn f) (total f)) × Tidy f) ⊎ Untidy f (r .at) (r .like)
             → Compared f (Refused (record { number = 12; place = r .at }))
-        go (inl x) = absurd (h (x .0) (x .1 ∙ ap (place (headIn f)) (sym (q .count))))
+        go (inl x) = absurd (h (x .0) (x .1 ∙ sym (ap₂ place (q .head) (q .count))))
         go (inr x) = rw (x .unlike) (ap (λ (n : ℕ). Refused (record { number = 12; place = n })) (sym (x .first)))
 
 pub not-both : true ≡ false → ⊥

@@ -2,7 +2,7 @@
 use mathlib.Core.Path.{_≡_, refl, ap, ap₂, _∙_}
 use mathlib.Core.Logic.{_↔_}
 use mathlib.Core.List.{List, [], _∷_, map}
-use Prim.Native.Nat.{ℕ, _≤_}
+use Prim.Native.Nat.{ℕ, _+_, _*_, _≤_}
 use native.Mathlib.Omega.{arith}
 use lib.ListN.{length}
 use Rattle.geometry.specs.declared.Head.{Head}
@@ -14,7 +14,10 @@ use Rattle.theory.specs.Blocks.{Answers, Block, answers, blocks}
 use Rattle.blocks.proofs.Blocks.{blocks-hold, bare-none, none-bare}
 use Rattle.refusal.specs.Refusals.{largestErosion}
 use Rattle.refusal.specs.Sides.{Sides}
-use Rattle.fields.specs.Fields.{encoded}
+use Rattle.geometry.specs.declared.Size.{Size}
+use Rattle.geometry.specs.Sizes.{sizeOf}
+use Rattle.geometry.proofs.Sizes.{small-size}
+use Rattle.fields.specs.Fields.{headBytes, plungeBytes, endBytes, fileLength, encoded}
 use Rattle.fields.proofs.Encoding.{encoded-length}
 use Rattle.reading.proofs.Readable.{encoded-head, encoded-plunges}
 use Rattle.jobs.specs.Calls.{tidied}
@@ -39,7 +42,7 @@ joined-files limit (b ∷ bs) = λ i.
     ∷ joined-files limit bs i
 
 computed : join (map (λ b. b .asked) blocks) (map (λ b. b .asked) blocks) (map (λ b. b .plate) blocks) ≡ asked blocks files
-unfolding encoded
+unfolding encoded sizeOf
 computed = refl
 
 pub files-hold : (limit : ℕ) → 2 ≤ limit → map (filed limit) blocks ≡ asked blocks files
@@ -54,10 +57,13 @@ files-hold limit h =
 pub bare-file : (p : Head) (m : List ℕ) → Sides p → (length (encoded p (listing p largestErosion m)) ≡ 13) ↔ ((c : Cell) → On p c → at p m c ≡ 0)
 bare-file p m sides = (
   (λ e c o. none-bare p largestErosion m (omega (arith, sides .narrow)) (empty (listing p largestErosion m)
-      (omega (arith, e, encoded-length p (listing p largestErosion m)))) c),
-  λ z. ap (λ (qs : List Plunge). length (encoded p qs)) (bare-none p largestErosion m z) ∙ encoded-length p [],
+      (omega (arith, e, encoded-length p (listing p largestErosion m), small-length (length (listing p largestErosion m))))) c),
+  λ z. ap (λ (qs : List Plunge). length (encoded p qs)) (bare-none p largestErosion m z) ∙ encoded-length p [] ∙ small-length 0,
 )
   where
+    small-length : (n : ℕ) → fileLength p n ≡ 13 + 7 * n
+    small-length n = ap (λ (s : Size). headBytes s + plungeBytes s * n + endBytes) (small-size p (sides .narrow) (sides .low)) ∙ omega arith
+
     empty : (qs : List Plunge) → length qs ≡ 0 → qs ≡ []
     empty [] e = refl
     empty (q ∷ qs) e = absurd (omega arith)

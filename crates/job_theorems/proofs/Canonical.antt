@@ -27,7 +27,7 @@ use Rattle.fields.specs.Fields.{encoded, place}
 use Rattle.fields.proofs.Encoding.{encoded-injective}
 use Rattle.reading.proofs.Answers.{after-file}
 use Rattle.reading.proofs.Readable.{Sound, readable-sound, Writable, encoded-readable, encoded-head, encoded-plunges}
-use Rattle.reading.specs.Reading.{IsReadable, headIn, plungesIn, plungeAt, total}
+use Rattle.reading.specs.Reading.{IsReadable, headIn, plungesIn, nthPlunge, total}
 use Rattle.geometry.specs.Lists.{common}
 use Rattle.listing.specs.Answers.{listAnswer}
 use Rattle.jobs.specs.Calls.{relief, tidiedPlunges, tidied, workTrial, roomFor, tidyVerdict}
@@ -84,7 +84,7 @@ module _ (f : List ℕ) (ok : IsReadable f) where
   pub original-fits : (q : Plunge) → List·Memᴰ q (plungesIn f) → Fits (headIn f) (relief f) q
   original-fits q i = go (gather-out (total f) 0 _ i)
     where
-      go : (j : ℕ) × (0 ≤ j) × (j < 0 + total f) × List·Memᴰ q (plungeAt f (place (headIn f) j) ∷ []) → Fits (headIn f) (relief f) q
+      go : (j : ℕ) × (0 ≤ j) × (j < 0 + total f) × List·Memᴰ q (nthPlunge f j ∷ []) → Fits (headIn f) (relief f) q
       go (j, a, b, List·Memᴰ·tail m) = absurd (List·Memᴰ·not-nil m)
       go (j, a, b, List·Memᴰ·head e) =
           record {

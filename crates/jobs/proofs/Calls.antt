@@ -160,7 +160,7 @@ module _ (f : List ℕ) (j : Job) (w : JobOf f j) where
   pub draw-asks : Sides (j .head) × Drawable (j .head) (j .plunges) f
   draw-asks =
       let s = readable-sound f (w .readable) in
-      let drawable : Drawable (headIn f) (total f) f = record { room = omega (arith, s .room); fits = s .fits } in (
+      let drawable : Drawable (headIn f) (total f) f = record { head = refl; room = omega (arith, s .room); fits = s .fits } in (
         subst Sides (sym (w .head)) (s .sides),
         subst (λ (n : ℕ). Drawable (j .head) n f) (sym (w .plunges))
             (subst (λ (h : Head). Drawable h (total f) f) (sym (w .head)) drawable),

@@ -5,10 +5,11 @@ use Prim.Native.Nat.{ℕ, _-_, _≤_}
 use lib.ListN.{length, take, drop}
 use Rattle.geometry.specs.declared.Head.{Head}
 use Rattle.geometry.specs.declared.Plunge.{Plunge}
+use Rattle.geometry.specs.Sizes.{sizeOf}
 use Rattle.theory.specs.Listing.{listing}
 use Rattle.refusal.specs.declared.Verdict.{Verdict}
 use Rattle.refusal.specs.Refusals.{firstMet, largestErosion, written}
-use Rattle.fields.specs.Fields.{plungeFields, fileLength, encoded, headBytes, place}
+use Rattle.fields.specs.Fields.{plungeFields, fileLength, encoded, place}
 use Rattle.listing.specs.declared.ListAnswer.{ListAnswer}
 use Rattle.listing.specs.Answers.{roomTrials, listAnswer}
 use Rattle.listing_plunges.specs.Listable.{Listable}
@@ -22,8 +23,8 @@ abbrev pub stageLength : ℕ
 stageLength = 32768
 
 -- a buffer has the fields of some plunges from behind the head on, if they end where it still has room
-abbrev pub KeptPlunges : List ℕ → ℕ → List Plunge → Type 0
-KeptPlunges kept end qs = end ≤ stageLength → take (end - headBytes) (drop headBytes kept) ≡ plungeFields qs
+abbrev pub KeptPlunges : Head → List ℕ → ℕ → List Plunge → Type 0
+KeptPlunges p kept end qs = end ≤ stageLength → take (end - place p 0) (drop (place p 0) kept) ≡ plungeFields (sizeOf p) qs
 
 -- the listing of a relief, answered and written to an output
 pub record ListedInto (p : Head) (m old new : List ℕ) (r : ListAnswer) : Type 0 where
@@ -36,4 +37,4 @@ pub record Puttable (p : Head) (m kept : List ℕ) (end : ℕ) (out a b : List �
   pub stage : length kept ≡ stageLength
   pub counted : end ≡ place p (length (listing p largestErosion m))
   pub room : end ≤ length out
-  pub plunges : KeptPlunges kept end (listing p largestErosion m)
+  pub plunges : KeptPlunges p kept end (listing p largestErosion m)

@@ -9,7 +9,8 @@ ghost use lib.Seq.{paste};
 ghost use Rattle.theory.specs.Listing.{listing};
 ghost use Rattle.refusal.specs.Refusals.{largestErosion};
 ghost use Rattle.buffers.specs.Fill.{PlateOnly};
-ghost use Rattle.fields.specs.Fields.{headBytes, plungeFields};
+ghost use Rattle.geometry.specs.Sizes.{sizeOf};
+ghost use Rattle.fields.specs.Fields.{place, plungeFields};
 ghost use Rattle.listing_plunges.specs.Listable.{Listable};
 ghost use Rattle.fields.specs.Writing.{spliced};
 ghost use Rattle.listing.specs.Staging.{Puttable, ListedInto};
@@ -29,12 +30,12 @@ pub enum ListAnswer {
 // The bytes of a file that the first pass can keep: the plunges of a longer one are found again by a second pass.
 pub const STAGE: usize = 32768;
 
-// Copies the bytes behind the head up to a place, to the same places of another buffer.
-fn copy_past_head(src: &[u8], dst: &mut [u8], to: usize)
-    requires { ⌜ (headBytes ≤ to) × (to ≤ length (now src)) × (to ≤ length (now dst)) ⌝ }
-    ensures { λ _. ⌜ now (dst .exit) ≡ paste (now (dst .entry)) headBytes (drop headBytes (now (src .entry))) (to - headBytes) ⌝ }
+// Copies the bytes from one place up to another, to the same places of another buffer.
+fn copy_stretch(src: &[u8], dst: &mut [u8], from: usize, to: usize)
+    requires { ⌜ (from ≤ to) × (to ≤ length (now src)) × (to ≤ length (now dst)) ⌝ }
+    ensures { λ _. ⌜ now (dst .exit) ≡ paste (now (dst .entry)) from (drop from (now (src .entry))) (to - from) ⌝ }
 {
-    let mut n = fields::HEAD_BYTES;
+    let mut n = from;
     while n < to {
         dst[n] = src[n];
         n += 1;
@@ -52,11 +53,11 @@ fn put_plunges(
     b: &mut [u8],
 )
     requires { ⌜ Puttable head (now relief) (now kept) end (now out) (now a) (now b) ⌝ }
-    ensures { λ _. ⌜ (now (out .exit) ≡ spliced (now (out .entry)) headBytes (plungeFields (listing head largestErosion (now (relief .entry)))))
+    ensures { λ _. ⌜ (now (out .exit) ≡ spliced (now (out .entry)) (place head 0) (plungeFields (sizeOf head) (listing head largestErosion (now (relief .entry)))))
         × PlateOnly head (now (a .entry)) (now (a .exit)) × PlateOnly head (now (b .entry)) (now (b .exit)) ⌝ }
 {
     if end <= STAGE {
-        copy_past_head(kept, out, end);
+        copy_stretch(kept, out, fields::place(head, 0), end);
         return;
     }
     listing_plunges::send_listing(head, Pass::Write, relief, relief, out, a, b);
@@ -78,7 +79,7 @@ pub fn list_into(
     let mut kept = [0u8; STAGE];
     let counted = listing_plunges::send_listing(head, Pass::Stage, relief, relief, &mut kept, a, b);
     let end = counted.at;
-    let plunges = (end - fields::HEAD_BYTES) / fields::PLUNGE_BYTES;
+    let plunges = (end - fields::place(head, 0)) / fields::plunge_bytes(head.size());
     let bytes = end + fields::END_BYTES;
     if out.len() < bytes {
         return ListAnswer::Unlisted(Refusal {

@@ -1,25 +1,29 @@
 -- What an array of marks writes, from mark to mark; and how written, staged and compared plunges are sent.
 use mathlib.Core.Path.{_≡_, refl, sym, ap, ap₂, _∙_, subst}
 use mathlib.Core.Bool.{Bool, true, false, cond}
-use mathlib.Core.List.{List, [], _∷_, _++_, map, map-append}
+use mathlib.Core.List.{List, [], _∷_, _++_, append-nil, map, map-append}
 use Prim.Native.Nat.{ℕ, zero, suc, _+_, _*_, _-_, _%_, _/_, _≤_, _<_}
 use native.Mathlib.Omega.{arith}
 use native.Mathlib.Nat.{mod-lt, div-lt-iff-lt-mul, mul-le-mul}
 use native.Mathlib.Numerals.{add-one}
+use native.Mathlib.Decide.{decLe}
 use borrow.Author.Tests.{eq-eqb, ne-eqb}
 use lib.Dec.{eqb}
-use lib.ListN.{length, getD, take, drop, length-take, length-map, take-append-drop, drop-of-length-le}
-use lib.Seq.{take-suc, take-take, getD-take}
+use lib.ListN.{length, getD, take, drop, length-take, length-map, length-append, take-append-drop}
+use lib.Seq.{take-append-seam, take-suc, take-take, getD-take}
 use Rattle.geometry.specs.declared.Plunge.{Plunge}
+use Rattle.geometry.specs.declared.Size.{Size}
+use Rattle.geometry.specs.declared.Size.the-variants.{Small, Large}
 use Rattle.geometry.specs.Lists.{gather, common}
 use Rattle.geometry.specs.Plate.{area}
 use Rattle.refusal.specs.Refusals.{largestSide}
 use Rattle.fields.specs.Fields.{plungeField, plungeFields, plungeBytes}
 use Rattle.fields.specs.Lengths.{IsLength}
+use Rattle.fields.specs.Fits.{PlungeFits}
 use Rattle.fields.specs.Writing.{spliced}
 use Rattle.fields.proofs.Splice.{splice-nil, splice-start, splice-length, splice-splice}
-use Rattle.fields.proofs.Encoding.{plungeFields-append, plungeFields-length}
-use Rattle.residue_marks.specs.Marks.{markPlaces, onPlace, markedPlaces, NotePlaces, Noted}
+use Rattle.fields.proofs.Encoding.{field-length, plungeFields-append, plungeFields-length, fields-few}
+use Rattle.residue_marks.specs.Marks.{markPlaces, tally, onPlace, markedPlaces, NotePlaces, Noted}
 use Rattle.residue_marks.proofs.Marking.{tally-few}
 use Rattle.residue_series.specs.Plunges.{onMark, marksTo}
 use Rattle.climb.specs.declared.Region.{Region}
@@ -32,7 +36,7 @@ use Rattle.listing_pass.specs.declared.Progress.{Progress}
 use Rattle.listing_pass.specs.Sent.{Compared, Staged, Sent}
 use Rattle.listing_pass.proofs.Common.{common-le}
 use Rattle.listing_pass.proofs.Passes.{sent-none, sent-all, sent-more, sent-stops, sent-written, sent-staged}
-use Rattle.listing_plunges.specs.Runs.{PlaceOf, NotedAt, notedPlunge}
+use Rattle.listing_plunges.specs.Runs.{PlaceOf, Bounded, NotedAt, notedPlunge}
 
 -- a region of a plate has no more cells than a plate may have
 region-few : (r : Region) → r .column + r .head .width ≤ largestSide → r .row + r .head .height ≤ largestSide → area (r .head) ≤ largestSide * largestSide
@@ -115,16 +119,16 @@ abbrev pub firstNoted : Found → List ℕ → List ℕ → ℕ → List Plunge
 firstNoted f marks noted j = map (notedPlunge f marks) (take j noted)
 
 -- those of the first j, of count, are written from a place on; their fields stand in a file from a place on
-pub record Put (f : Found) (marks noted : List ℕ) (count at : ℕ) (old : List ℕ) (j : ℕ) (new : List ℕ) (place : ℕ) : Type 0 where
+pub record Put (s : Size) (f : Found) (marks noted : List ℕ) (count at : ℕ) (old : List ℕ) (j : ℕ) (new : List ℕ) (place : ℕ) : Type 0 where
   pub within : j ≤ count
-  pub written : new ≡ spliced old at (plungeFields (firstNoted f marks noted j))
-  pub reached : place ≡ at + plungeBytes * j
+  pub written : new ≡ spliced old at (plungeFields s (firstNoted f marks noted j))
+  pub reached : place ≡ at + length (plungeFields s (firstNoted f marks noted j))
 
-pub record Like (f : Found) (marks noted : List ℕ) (count : ℕ) (file : List ℕ) (at j place : ℕ) : Type 0 where
+pub record Like (s : Size) (f : Found) (marks noted : List ℕ) (count : ℕ) (file : List ℕ) (at j place : ℕ) : Type 0 where
   pub within : j ≤ count
-  pub sent : Sent Compare file at (plungeFields (firstNoted f marks noted j)) [] [] (record { at = place; like = true })
+  pub sent : Sent Compare file at (plungeFields s (firstNoted f marks noted j)) [] [] (record { at = place; like = true })
 
-module _ (f : Found) (marks noted : List ℕ) (count : ℕ) (n : NotedRun f marks noted count) where
+module _ (s : Size) (f : Found) (marks noted : List ℕ) (count : ℕ) (n : NotedRun f marks noted count) where
   counted : length (markedPlaces marks (f .places .number) 0) ≡ count
   counted = sym (ap length (n .places)) ∙ length-take count noted ∙ (let a = n .few in let b = n .marked .short in let c = n .size in omega arith)
 
@@ -163,146 +167,186 @@ module _ (f : Found) (marks noted : List ℕ) (count : ℕ) (n : NotedRun f mark
         ap (map (notedPlunge f marks)) (ap (λ (i : ℕ). take i noted) (add-one j) ∙ take-suc noted j 0 (omega (arith, noted-at .here, n .size)))
         ∙ map-append (notedPlunge f marks) (take j noted) (getD noted j 0 ∷ [])
 
-    fields-next : plungeFields (firstNoted f marks noted (j + 1))
-        ≡ plungeFields (firstNoted f marks noted j) ++ plungeField (notedPlunge f marks (getD noted j 0))
-    fields-next = ap plungeFields noted-next ∙ plungeFields-append (firstNoted f marks noted j) (notedPlunge f marks (getD noted j 0) ∷ [])
+    fields-next : plungeFields s (firstNoted f marks noted (j + 1))
+        ≡ plungeFields s (firstNoted f marks noted j) ++ plungeField s (notedPlunge f marks (getD noted j 0))
+    fields-next =
+        ap (plungeFields s) noted-next ∙ plungeFields-append s (firstNoted f marks noted j) (notedPlunge f marks (getD noted j 0) ∷ [])
+        ∙ ap (λ (l : List ℕ). plungeFields s (firstNoted f marks noted j) ++ l) (append-nil (plungeField s (notedPlunge f marks (getD noted j 0))))
 
     -- those after it
-    fields-rest : plungeFields (foundPlunges f marks) ≡ plungeFields (firstNoted f marks noted (j + 1))
-        ++ plungeFields (map (notedPlunge f marks) (drop (j + 1) (take count noted)))
+    fields-rest : plungeFields s (foundPlunges f marks) ≡ plungeFields s (firstNoted f marks noted (j + 1))
+        ++ plungeFields s (map (notedPlunge f marks) (drop (j + 1) (take count noted)))
     fields-rest =
-        ap plungeFields
+        ap (plungeFields s)
         (sym all ∙ ap (map (notedPlunge f marks)) (sym (take-append-drop (j + 1) (take count noted)))
         ∙ map-append (notedPlunge f marks) (take (j + 1) (take count noted)) (drop (j + 1) (take count noted))
         ∙ ap (λ (l : List ℕ). map (notedPlunge f marks) l ++ map (notedPlunge f marks) (drop (j + 1) (take count noted)))
         (take-take (j + 1) count noted (omega arith)))
-        ∙ plungeFields-append (firstNoted f marks noted (j + 1)) (map (notedPlunge f marks) (drop (j + 1) (take count noted)))
+        ∙ plungeFields-append s (firstNoted f marks noted (j + 1)) (map (notedPlunge f marks) (drop (j + 1) (take count noted)))
 
-  noted-bytes : (j : ℕ) → j ≤ count → length (plungeFields (firstNoted f marks noted j)) ≡ plungeBytes * j
-  noted-bytes j h =
-      let a = n .few in
-      let b = n .marked .short in
-      let c = n .size in
-      omega (arith, plungeFields-length (firstNoted f marks noted j), length-map (take j noted) (notedPlunge f marks), length-take j noted)
+  -- one field more, and those up to one of them, by their lengths
+  bytes-next : (j : ℕ) → j < count → length (plungeFields s (firstNoted f marks noted (j + 1)))
+      ≡ length (plungeFields s (firstNoted f marks noted j)) + plungeBytes s
+  bytes-next j less =
+      omega (
+        arith,
+        ap length (fields-next j less),
+        length-append (plungeFields s (firstNoted f marks noted j)) (plungeField s (notedPlunge f marks (getD noted j 0))),
+        field-length s (notedPlunge f marks (getD noted j 0)),
+      )
+
+  bytes-before : (j : ℕ) → j < count → length (plungeFields s (firstNoted f marks noted j)) + plungeBytes s ≤ length (plungeFields s (foundPlunges f marks))
+  bytes-before j less =
+      omega (
+        arith,
+        bytes-next j less,
+        ap length (fields-rest j less),
+        length-append (plungeFields s (firstNoted f marks noted (j + 1))) (plungeFields s (map (notedPlunge f marks) (drop (j + 1) (take count noted)))),
+      )
+
+  bytes-within : (j : ℕ) → j ≤ count → length (plungeFields s (firstNoted f marks noted j)) ≤ length (plungeFields s (foundPlunges f marks))
+  bytes-within j h = go (decLe count j)
+    where
+      go : Dec (count ≤ j) → length (plungeFields s (firstNoted f marks noted j)) ≤ length (plungeFields s (foundPlunges f marks))
+      go (yes l) = omega (arith, ap (λ (qs : List Plunge). length (plungeFields s qs)) (noted-all j h l))
+      go (no l) = omega (arith, bytes-before j (omega arith))
 
   -- ---- written
 
-  pub put-none : (at : ℕ) (old : List ℕ) → Put f marks noted count at old 0 old at
+  pub put-none : (at : ℕ) (old : List ℕ) → Put s f marks noted count at old 0 old at
   put-none at old = record { within = omega arith; written = sym (splice-nil old at); reached = omega arith }
 
-  module _ (at : ℕ) (old : List ℕ) (j : ℕ) (mid : List ℕ) (place : ℕ) (s : Put f marks noted count at old j mid place)
-      (room : at + plungeBytes * length (foundPlunges f marks) ≤ length old) where
-    fits : at + length (plungeFields (firstNoted f marks noted j)) ≤ length old
-    fits = omega (arith, noted-bytes j (s .within), noted-count, s .within, room)
+  module _ (at : ℕ) (old : List ℕ) (j : ℕ) (mid : List ℕ) (place : ℕ) (h : Put s f marks noted count at old j mid place)
+      (room : at + length (plungeFields s (foundPlunges f marks)) ≤ length old) where
+    fits : at + length (plungeFields s (firstNoted f marks noted j)) ≤ length old
+    fits = omega (arith, bytes-within j (h .within), room)
 
     pub put-same : length mid ≡ length old
-    put-same = ap length (s .written) ∙ splice-length old at _ fits
+    put-same = ap length (h .written) ∙ splice-length old at _ fits
 
-    pub put-end : count ≤ j → (place ≡ at + plungeBytes * length (foundPlunges f marks)) × (mid ≡ spliced old at (plungeFields (foundPlunges f marks)))
-    put-end h = (
-      omega (arith, s .reached, s .within, noted-count),
-      s .written ∙ ap (λ (l : List Plunge). spliced old at (plungeFields l)) (noted-all j (s .within) h),
+    pub put-end : count ≤ j → (place ≡ at + length (plungeFields s (foundPlunges f marks))) × (mid ≡ spliced old at (plungeFields s (foundPlunges f marks)))
+    put-end l = (
+      h .reached ∙ ap (λ (qs : List Plunge). at + length (plungeFields s qs)) (noted-all j (h .within) l),
+      h .written ∙ ap (λ (qs : List Plunge). spliced old at (plungeFields s qs)) (noted-all j (h .within) l),
     )
 
     module _ (less : j < count) where
-      pub put-room : place + plungeBytes ≤ length mid
-      put-room = omega (arith, s .reached, put-same, noted-count, room)
+      pub put-room : place + plungeBytes s ≤ length mid
+      put-room = omega (arith, h .reached, put-same, bytes-before j less, room)
 
       -- one plunge more
-      pub put-more : (q : Plunge) (new : List ℕ) → q ≡ notedPlunge f marks (getD noted j 0) → new ≡ spliced mid place (plungeField q)
-          → Put f marks noted count at old (j + 1) new (place + plungeBytes)
-      put-more q new is e =
-          let end : place ≡ at + length (plungeFields (firstNoted f marks noted j)) = omega (arith, s .reached, noted-bytes j (s .within)) in
+      pub put-more : (q : Plunge) (new : List ℕ) (end : ℕ) → q ≡ notedPlunge f marks (getD noted j 0) → new ≡ spliced mid place (plungeField s q)
+          → end ≡ place + plungeBytes s → Put s f marks noted count at old (j + 1) new end
+      put-more q new end is e g =
           record {
             within = omega arith;
             written =
-                e ∙ ap (λ (o : Plunge). spliced mid place (plungeField o)) is
-                ∙ ap₂ (λ (l : List ℕ) (i : ℕ). spliced l i (plungeField (notedPlunge f marks (getD noted j 0)))) (s .written) end
-                ∙ splice-splice old at (plungeFields (firstNoted f marks noted j)) _ fits ∙ ap (spliced old at) (sym (fields-next j less));
-            reached = omega (arith, s .reached);
+                e ∙ ap (λ (o : Plunge). spliced mid place (plungeField s o)) is
+                ∙ ap₂ (λ (l : List ℕ) (i : ℕ). spliced l i (plungeField s (notedPlunge f marks (getD noted j 0)))) (h .written) (h .reached)
+                ∙ splice-splice old at (plungeFields s (firstNoted f marks noted j)) _ fits ∙ ap (spliced old at) (sym (fields-next j less));
+            reached = omega (arith, h .reached, bytes-next j less);
           }
 
   -- ---- compared
 
-  pub like-none : (file : List ℕ) (at : ℕ) → Like f marks noted count file at 0 at
+  pub like-none : (file : List ℕ) (at : ℕ) → Like s f marks noted count file at 0 at
   like-none file at = record { within = omega arith; sent = sent-none Compare file at [] }
 
-  module _ (file : List ℕ) (at j place : ℕ) (s : Like f marks noted count file at j place) where
-    like-place : place ≡ at + plungeBytes * j
-    like-place = omega (arith, sent-all Compare file at _ [] [] _ (s .sent) refl, noted-bytes j (s .within))
+  module _ (file : List ℕ) (at j place : ℕ) (h : Like s f marks noted count file at j place) where
+    like-place : place ≡ at + length (plungeFields s (firstNoted f marks noted j))
+    like-place = sent-all Compare file at _ [] [] _ (h .sent) refl
 
-    pub like-end : count ≤ j → Compared file at (plungeFields (foundPlunges f marks)) (record { at = place; like = true })
-    like-end h = as-compared _ _ _ _ (subst (λ (l : List Plunge). Sent Compare file at (plungeFields l) [] [] (record { at = place; like = true }))
-        (noted-all j (s .within) h) (s .sent))
+    pub like-end : count ≤ j → Compared file at (plungeFields s (foundPlunges f marks)) (record { at = place; like = true })
+    like-end l = as-compared _ _ _ _ (subst (λ (qs : List Plunge). Sent Compare file at (plungeFields s qs) [] [] (record { at = place; like = true }))
+        (noted-all j (h .within) l) (h .sent))
 
     -- the next field ends where a length can be
-    pub like-fits : j < count → IsLength (at + plungeBytes * markPlaces) → IsLength (place + plungeBytes)
-    like-fits h l = omega (arith, like-place, n .few, n .marked .short)
+    pub like-fits : j < count → IsLength (at + plungeBytes s * markPlaces) → IsLength (place + plungeBytes s)
+    like-fits less l = omega (arith, like-place, bytes-before j less, fields-few s (foundPlunges f marks) markPlaces few)
+      where
+        few : length (foundPlunges f marks) ≤ markPlaces
+        few = omega (arith, noted-count, n .few, n .marked .short)
 
     module _ (less : j < count) (q : Plunge) (is : q ≡ notedPlunge f marks (getD noted j 0)) (m : ℕ)
-        (found : m ≡ common (drop place file) (plungeField q)) where
-      pub like-few : m ≤ plungeBytes
-      like-few = omega (arith, found, common-le (drop place file) (plungeField q))
+        (found : m ≡ common (drop place file) (plungeField s q)) where
+      pub like-few : m ≤ plungeBytes s
+      like-few = omega (arith, found, common-le (drop place file) (plungeField s q), field-length s q)
 
       -- a comparison with one field more
       abbrev Next : Bool → Type 0
-      Next t = Sent Compare file at (plungeFields (firstNoted f marks noted (j + 1))) [] [] (record { at = place + m; like = t })
+      Next t = Sent Compare file at (plungeFields s (firstNoted f marks noted (j + 1))) [] [] (record { at = place + m; like = t })
 
-      both : Next (eqb m plungeBytes)
+      both : Next (eqb m (length (plungeField s q)))
       both =
-          subst (λ (o : List ℕ). Sent Compare file at o [] [] (record { at = place + m; like = eqb m plungeBytes }))
-          (ap (λ (o : Plunge). plungeFields (firstNoted f marks noted j) ++ plungeField o) is ∙ sym (fields-next j less))
-          (sent-more Compare file at (plungeFields (firstNoted f marks noted j)) (plungeField q) [] [] [] _ _ (λ e. absurd (not-writing e)) (s .sent) refl
-          (record { place = ap (λ (i : ℕ). place + i) found; like = ap (λ (i : ℕ). eqb i plungeBytes) found; bytes = refl }))
+          subst (λ (o : List ℕ). Sent Compare file at o [] [] (record { at = place + m; like = eqb m (length (plungeField s q)) }))
+          (ap (λ (o : Plunge). plungeFields s (firstNoted f marks noted j) ++ plungeField s o) is ∙ sym (fields-next j less))
+          (sent-more Compare file at (plungeFields s (firstNoted f marks noted j)) (plungeField s q) [] [] [] _ _ (λ e. absurd (not-writing e)) (h .sent) refl
+          (record { place = ap (λ (i : ℕ). place + i) found; like = ap (λ (i : ℕ). eqb i (length (plungeField s q))) found; bytes = refl }))
 
       -- one plunge more
-      pub like-more : plungeBytes ≤ m → Like f marks noted count file at (j + 1) (place + m)
-      like-more h =
-          let e : m ≡ plungeBytes = omega (arith, like-few) in
-          record { within = omega arith; sent = subst Next (eq-eqb m plungeBytes e) both }
+      pub like-more : plungeBytes s ≤ m → Like s f marks noted count file at (j + 1) (place + m)
+      like-more l =
+          let e : m ≡ length (plungeField s q) = omega (arith, like-few, field-length s q) in
+          record { within = omega arith; sent = subst Next (eq-eqb m (length (plungeField s q)) e) both }
 
       -- a byte of it is unlike
-      pub like-stops : m < plungeBytes → Compared file at (plungeFields (foundPlunges f marks)) (record { at = place + m; like = false })
-      like-stops h =
-          let unlike : eqb m plungeBytes ≡ false = ne-eqb m plungeBytes (λ e. omega arith) in
+      pub like-stops : m < plungeBytes s → Compared file at (plungeFields s (foundPlunges f marks)) (record { at = place + m; like = false })
+      like-stops l =
+          let unlike : eqb m (length (plungeField s q)) ≡ false = ne-eqb m (length (plungeField s q)) (λ e. omega (arith, e, field-length s q)) in
           as-compared _ _ _ _
           (subst (λ (o : List ℕ). Sent Compare file at o [] [] (record { at = place + m; like = false })) (sym (fields-rest j less))
-          (sent-stops Compare file at (plungeFields (firstNoted f marks noted (j + 1))) _ [] [] _ (subst Next unlike both) refl))
+          (sent-stops Compare file at (plungeFields s (firstNoted f marks noted (j + 1))) _ [] [] _ (subst Next unlike both) refl))
 
 -- ---- a run sent
 
-module _ (pass : Pass) (file : List ℕ) (at : ℕ) (qs : List Plunge) (old new : List ℕ) where
-  pub none-sent : qs ≡ [] → Sent pass file at (plungeFields qs) old old (record { at = at; like = true })
-  none-sent e = subst (λ (l : List Plunge). Sent pass file at (plungeFields l) old old (record { at = at; like = true })) (sym e) (sent-none pass file at old)
+module _ (pass : Pass) (s : Size) (file : List ℕ) (at : ℕ) (qs : List Plunge) (old new : List ℕ) where
+  pub none-sent : qs ≡ [] → Sent pass file at (plungeFields s qs) old old (record { at = at; like = true })
+  none-sent e = subst (λ (l : List Plunge). Sent pass file at (plungeFields s l) old old (record { at = at; like = true })) (sym e) (sent-none pass file at old)
 
-  module _ (r : ℕ) (reached : r ≡ at + plungeBytes * length qs) where
-    end : at + length (plungeFields qs) ≡ r
-    end = omega (arith, plungeFields-length qs)
-
-    pub run-written : pass ≡ Write → new ≡ spliced old at (plungeFields qs) → Sent pass file at (plungeFields qs) old new (record { at = r; like = true })
+  module _ (r : ℕ) (reached : r ≡ at + length (plungeFields s qs)) where
+    pub run-written : pass ≡ Write → new ≡ spliced old at (plungeFields s qs) → Sent pass file at (plungeFields s qs) old new (record { at = r; like = true })
     run-written e g =
-        subst (λ (j : ℕ). Sent pass file at (plungeFields qs) old new (record { at = j; like = true })) end
-        (sent-written pass file at (plungeFields qs) old new e g)
+        subst (λ (j : ℕ). Sent pass file at (plungeFields s qs) old new (record { at = j; like = true })) (sym reached)
+        (sent-written pass file at (plungeFields s qs) old new e g)
 
-    pub run-staged : pass ≡ Stage → Staged old at (plungeFields qs) new → Sent pass file at (plungeFields qs) old new (record { at = r; like = true })
+    pub run-staged : pass ≡ Stage → Staged old at (plungeFields s qs) new → Sent pass file at (plungeFields s qs) old new (record { at = r; like = true })
     run-staged e g =
-        subst (λ (j : ℕ). Sent pass file at (plungeFields qs) old new (record { at = j; like = true })) end
-        (sent-staged pass file at (plungeFields qs) old new e g)
+        subst (λ (j : ℕ). Sent pass file at (plungeFields s qs) old new (record { at = j; like = true })) (sym reached)
+        (sent-staged pass file at (plungeFields s qs) old new e g)
 
--- plunges that were written where there was room for them, and plunges for which there is none
-module _ (at : ℕ) (qs : List Plunge) (old new : List ℕ) (bytes : ℕ) (is : bytes ≡ plungeBytes * length qs) where
-  pub staged-long : at + bytes ≤ length old → new ≡ spliced old at (plungeFields qs) → Staged old at (plungeFields qs) new
-  staged-long h g = (ap length g ∙ splice-length old at (plungeFields qs) (omega (arith, plungeFields-length qs)), λ l. g)
+-- fields that were written where there was room for them, and fields for which there is none
+module _ (at : ℕ) (bs old new : List ℕ) (bytes : ℕ) (is : bytes ≡ length bs) where
+  pub staged-long : at + bytes ≤ length old → new ≡ spliced old at bs → Staged old at bs new
+  staged-long h g = (ap length g ∙ splice-length old at bs (omega arith), λ l. g)
 
-  pub staged-short : length old < at + bytes → Staged old at (plungeFields qs) old
-  staged-short h = (refl, λ l. absurd (omega (arith, plungeFields-length qs)))
+  pub staged-short : length old < at + bytes → Staged old at bs old
+  staged-short h = (refl, λ l. absurd (omega arith))
 
--- a plunge's field in an array of its length
-pub field-whole : (q : Plunge) (old new : List ℕ) → length old ≡ plungeBytes → new ≡ spliced old 0 (plungeField q) → new ≡ plungeField q
-field-whole q old new e g =
-    let h : length old ≤ length (plungeField q) = omega (arith, e) in
-    g ∙ splice-start old (plungeField q) ∙ ap (λ (l : List ℕ). plungeField q ++ l) (drop-of-length-le old h)
+-- ---- a plunge's field
+
+-- the first bytes of an array that it was written to
+pub field-first : (s : Size) (q : Plunge) (old new : List ℕ) (n : ℕ) → n ≡ plungeBytes s → new ≡ spliced old 0 (plungeField s q) → take n new ≡ plungeField s q
+field-first s q old new n e g =
+    let k : n ≡ length (plungeField s q) = omega (arith, field-length s q) in
+    ap₂ take k (g ∙ splice-start old (plungeField s q)) ∙ take-append-seam (plungeField s q) (drop (length (plungeField s q)) old)
+
+-- a plunge of a plate of fitting sides has room in a field of either size
+pub bounded-fits : (s : Size) (q : Plunge) → Bounded q → PlungeFits s q
+bounded-fits Small q b = record { column = omega (arith, b .column); row = omega (arith, b .row); reach = omega (arith, b .reach) }
+bounded-fits Large q b = record { column = omega (arith, b .column); row = omega (arith, b .row); reach = omega (arith, b .reach) }
 
 -- a run has no more plunges than places
 pub marks-few : (n : ℕ) (f : ℕ → ℕ → Plunge) (start : ℕ) (marks : List ℕ) → length (marksTo n f start marks) ≤ n
 marks-few n f start marks = omega (arith, tally-length f start marks n, tally-few marks n)
+
+-- the bytes of a run's fields, by how many marks there are; no more than those of as many fields as places
+module _ (s : Size) (f : Found) (marks : List ℕ) where
+  count-plunges : (k : ℕ) → k ≡ tally marks (f .places .number) → length (foundPlunges f marks) ≡ k
+  count-plunges k e = tally-length (plungeOf f) (f .places .start) marks (f .places .number) ∙ sym e
+
+  pub run-bytes : (b k : ℕ) → b ≡ plungeBytes s → k ≡ tally marks (f .places .number) → b * k ≡ length (plungeFields s (foundPlunges f marks))
+  run-bytes b k e g = (λ i. e i * sym (count-plunges k g) i) ∙ sym (plungeFields-length s (foundPlunges f marks))
+
+  pub run-bytes-few : FoundMarks f marks → length (plungeFields s (foundPlunges f marks)) ≤ plungeBytes s * markPlaces
+  run-bytes-few m = fields-few s (foundPlunges f marks) markPlaces
+      (omega (arith, marks-few (f .places .number) (plungeOf f) (f .places .start) marks, m .short))

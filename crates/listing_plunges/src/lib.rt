@@ -2,6 +2,7 @@
 use climb::Found;
 use geometry::Head;
 use geometry::Plunge;
+use geometry::Size;
 use listing_pass::Pass;
 use listing_pass::Progress;
 ghost use mathlib.Core.Path.{_≡_};
@@ -11,14 +12,22 @@ ghost use Rattle.theory.specs.Listing.{listing};
 ghost use Rattle.geometry.specs.Lists.{common};
 ghost use Rattle.refusal.specs.Refusals.{largestSide, largestErosion};
 ghost use Rattle.buffers.specs.Fill.{PlateOnly};
-ghost use Rattle.fields.specs.Fields.{headBytes, plungeBytes, plungeField, plungeFields};
+ghost use Rattle.geometry.specs.Sizes.{sizeOf};
+ghost use Rattle.fields.specs.Fields.{plungeBytes, place, plungeField, plungeFields};
+ghost use Rattle.fields.specs.Fits.{PlungeFits};
 ghost use Rattle.fields.specs.Lengths.{IsLength};
 ghost use Rattle.fields.specs.Writing.{spliced};
 ghost use Rattle.residue_marks.specs.Marks.{markPlaces};
 ghost use Rattle.climb.specs.Climbs.{plungeOf, foundPlunges, FoundMarks};
 ghost use Rattle.listing_pass.specs.Sent.{Compared, Staged, Sent, Room};
 ghost use Rattle.listing_plunges.specs.Listable.{Listable};
-ghost use Rattle.listing_plunges.specs.Runs.{PlaceOf, NotedAt, notedPlunge, ToSend};
+ghost use Rattle.listing_plunges.specs.Runs.{PlaceOf, Bounded, NotedAt, notedPlunge, ToSend};
+
+// What is done with the plunges of a run, and the size of their fields.
+pub struct Sending {
+    pub pass: Pass,
+    pub size: Size,
+}
 
 // The plunge of a run's place: place n is column n % width of row n / width of its region.
 fn plunge_at(found: Found, n: usize, depth: u8) -> Plunge
@@ -47,7 +56,7 @@ fn noted_plunge(
     j: usize,
 ) -> Plunge
     requires { ⌜ NotedAt found (now marks) (now noted) j ⌝ }
-    ensures { λ r. ⌜ (r ≡ notedPlunge found (now (marks .entry)) (getD (now (noted .entry)) j 0)) × (r .column < largestSide) × (r .row < largestSide) ⌝ }
+    ensures { λ r. ⌜ (r ≡ notedPlunge found (now (marks .entry)) (getD (now (noted .entry)) j 0)) × Bounded r ⌝ }
 {
     let i = noted[j] as usize;
     plunge_at(found, found.places.start + i, marks[i])
@@ -55,16 +64,17 @@ fn noted_plunge(
 
 // Writes the fields of a run's plunges from a place on, once their places are noted in an array. Returns the place behind them.
 fn put_marks(
+    size: Size,
     found: Found,
     marks: &[u8; residue_marks::MARK_PLACES],
     noted: &mut [u16; residue_marks::MARK_PLACES],
     out: &mut [u8],
     at: usize,
 ) -> usize
-    requires { ⌜ FoundMarks found (now marks) × (at + plungeBytes * length (foundPlunges found (now marks)) ≤ length (now out))
+    requires { ⌜ FoundMarks found (now marks) × (at + length (plungeFields size (foundPlunges found (now marks))) ≤ length (now out))
         × (length (now noted) ≡ markPlaces) ⌝ }
-    ensures { λ r. ⌜ (r ≡ at + plungeBytes * length (foundPlunges found (now (marks .entry))))
-        × (now (out .exit) ≡ spliced (now (out .entry)) at (plungeFields (foundPlunges found (now (marks .entry)))))
+    ensures { λ r. ⌜ (r ≡ at + length (plungeFields size (foundPlunges found (now (marks .entry)))))
+        × (now (out .exit) ≡ spliced (now (out .entry)) at (plungeFields size (foundPlunges found (now (marks .entry)))))
         × (length (now (noted .exit)) ≡ markPlaces) ⌝ }
 {
     let count = residue_marks::note_marks(marks, found.places.number, noted);
@@ -72,41 +82,42 @@ fn put_marks(
     let mut j = 0;
     while j < count {
         let q = noted_plunge(found, marks, noted, j);
-        fields::put_plunge(out, place, q);
-        place += fields::PLUNGE_BYTES;
+        fields::put_plunge(size, out, place, q);
+        place += fields::plunge_bytes(size);
         j += 1;
     }
     place
 }
 
 // How many bytes the fields of a run's plunges have.
-fn field_bytes(found: Found, marks: &[u8; residue_marks::MARK_PLACES]) -> usize
+fn field_bytes(size: Size, found: Found, marks: &[u8; residue_marks::MARK_PLACES]) -> usize
     requires { ⌜ FoundMarks found (now marks) ⌝ }
-    ensures { λ r. ⌜ r ≡ plungeBytes * length (foundPlunges found (now (marks .entry))) ⌝ }
+    ensures { λ r. ⌜ r ≡ length (plungeFields size (foundPlunges found (now (marks .entry)))) ⌝ }
 {
-    fields::PLUNGE_BYTES * residue_marks::count_marks(marks, found.places.number)
+    fields::plunge_bytes(size) * residue_marks::count_marks(marks, found.places.number)
 }
 
 // How many bytes of a plunge's field stand in a file from a place on.
-fn compare_plunge(q: Plunge, file: &[u8], at: usize) -> usize
-    requires { ⌜ IsLength (at + plungeBytes) × (q .column < largestSide) × (q .row < largestSide) ⌝ }
-    ensures { λ r. ⌜ r ≡ common (drop at (now (file .entry))) (plungeField q) ⌝ }
+fn compare_plunge(size: Size, q: Plunge, file: &[u8], at: usize) -> usize
+    requires { ⌜ IsLength (at + plungeBytes size) × PlungeFits size q ⌝ }
+    ensures { λ r. ⌜ r ≡ common (drop at (now (file .entry))) (plungeField size q) ⌝ }
 {
-    let mut field = [0u8; fields::PLUNGE_BYTES];
-    fields::put_plunge(&mut field, 0, q);
-    listing_pass::common_run(file, at, &field)
+    let mut field = [0u8; fields::PLUNGE_ROOM];
+    fields::put_plunge(size, &mut field, 0, q);
+    listing_pass::common_run(file, at, &field[..fields::plunge_bytes(size)])
 }
 
 // Compares the fields of a run's plunges with a file from a place on, once their places are noted in an array.
 fn compare_marks(
+    size: Size,
     found: Found,
     marks: &[u8; residue_marks::MARK_PLACES],
     noted: &mut [u16; residue_marks::MARK_PLACES],
     file: &[u8],
     at: usize,
 ) -> Progress
-    requires { ⌜ FoundMarks found (now marks) × IsLength (at + plungeBytes * markPlaces) × (length (now noted) ≡ markPlaces) ⌝ }
-    ensures { λ r. ⌜ Compared (now (file .entry)) at (plungeFields (foundPlunges found (now (marks .entry)))) r
+    requires { ⌜ FoundMarks found (now marks) × IsLength (at + plungeBytes size * markPlaces) × (length (now noted) ≡ markPlaces) ⌝ }
+    ensures { λ r. ⌜ Compared (now (file .entry)) at (plungeFields size (foundPlunges found (now (marks .entry)))) r
         × (length (now (noted .exit)) ≡ markPlaces) ⌝ }
 {
     let count = residue_marks::note_marks(marks, found.places.number, noted);
@@ -114,9 +125,9 @@ fn compare_marks(
     let mut j = 0;
     while j < count {
         let q = noted_plunge(found, marks, noted, j);
-        let n = compare_plunge(q, file, place);
+        let n = compare_plunge(size, q, file, place);
         place += n;
-        if n < fields::PLUNGE_BYTES {
+        if n < fields::plunge_bytes(size) {
             return Progress {
                 at: place,
                 like: false,
@@ -132,27 +143,28 @@ fn compare_marks(
 
 // Writes the fields of a run's plunges from a place on if an output has room for them. Returns the place behind them.
 fn stage_marks(
+    size: Size,
     found: Found,
     marks: &[u8; residue_marks::MARK_PLACES],
     noted: &mut [u16; residue_marks::MARK_PLACES],
     out: &mut [u8],
     at: usize,
 ) -> usize
-    requires { ⌜ FoundMarks found (now marks) × IsLength (at + plungeBytes * markPlaces) × (length (now noted) ≡ markPlaces) ⌝ }
-    ensures { λ r. ⌜ (r ≡ at + plungeBytes * length (foundPlunges found (now (marks .entry))))
-        × Staged (now (out .entry)) at (plungeFields (foundPlunges found (now (marks .entry)))) (now (out .exit))
+    requires { ⌜ FoundMarks found (now marks) × IsLength (at + plungeBytes size * markPlaces) × (length (now noted) ≡ markPlaces) ⌝ }
+    ensures { λ r. ⌜ (r ≡ at + length (plungeFields size (foundPlunges found (now (marks .entry)))))
+        × Staged (now (out .entry)) at (plungeFields size (foundPlunges found (now (marks .entry)))) (now (out .exit))
         × (length (now (noted .exit)) ≡ markPlaces) ⌝ }
 {
-    let end = at + field_bytes(found, marks);
+    let end = at + field_bytes(size, found, marks);
     if end <= out.len() {
-        return put_marks(found, marks, noted, out, at);
+        return put_marks(size, found, marks, noted, out, at);
     }
     end
 }
 
 // Sends the plunges of a run at a place: their fields are written, compared or staged there.
 fn send_run(
-    pass: Pass,
+    sending: Sending,
     found: Found,
     marks: &[u8; residue_marks::MARK_PLACES],
     noted: &mut [u16; residue_marks::MARK_PLACES],
@@ -160,21 +172,24 @@ fn send_run(
     out: &mut [u8],
     at: usize,
 ) -> Progress
-    requires { ⌜ ToSend pass found (now marks) at (now out) × (length (now noted) ≡ markPlaces) ⌝ }
-    ensures { λ r. ⌜ Sent pass (now (file .entry)) at (plungeFields (foundPlunges found (now (marks .entry)))) (now (out .entry)) (now (out .exit)) r
+    requires { ⌜ ToSend sending found (now marks) at (now out) × (length (now noted) ≡ markPlaces) ⌝ }
+    ensures { λ r. ⌜ Sent (sending .pass) (now (file .entry)) at (plungeFields (sending .size) (foundPlunges found (now (marks .entry))))
+        (now (out .entry)) (now (out .exit)) r
         × (length (now (noted .exit)) ≡ markPlaces) ⌝ }
 {
     if found.deepest == 0 {
         return Progress { at, like: true };
     }
+    let size = sending.size;
+    let pass = sending.pass;
     match pass {
         Pass::Write => Progress {
-            at: put_marks(found, marks, noted, out, at),
+            at: put_marks(size, found, marks, noted, out, at),
             like: true,
         },
-        Pass::Compare => compare_marks(found, marks, noted, file, at),
+        Pass::Compare => compare_marks(size, found, marks, noted, file, at),
         Pass::Stage => Progress {
-            at: stage_marks(found, marks, noted, out, at),
+            at: stage_marks(size, found, marks, noted, out, at),
             like: true,
         },
     }
@@ -191,17 +206,21 @@ pub fn send_listing(
     b: &mut [u8],
 ) -> Progress
     requires { ⌜ Listable head (now relief) (now a) (now b)
-        × Room pass (headBytes + plungeBytes * length (listing head largestErosion (now relief))) (now out) ⌝ }
-    ensures { λ r. ⌜ Sent pass (now (file .entry)) headBytes (plungeFields (listing head largestErosion (now (relief .entry))))
+        × Room pass (place head (length (listing head largestErosion (now relief)))) (now out) ⌝ }
+    ensures { λ r. ⌜ Sent pass (now (file .entry)) (place head 0) (plungeFields (sizeOf head) (listing head largestErosion (now (relief .entry))))
         (now (out .entry)) (now (out .exit)) r × PlateOnly head (now (a .entry)) (now (a .exit)) × PlateOnly head (now (b .entry)) (now (b .exit)) ⌝ }
 {
     let mut marks = [0u8; residue_marks::MARK_PLACES];
     let mut noted = [0u16; residue_marks::MARK_PLACES];
-    let mut place = fields::HEAD_BYTES;
+    let sending = Sending {
+        pass,
+        size: head.size(),
+    };
+    let mut place = fields::place(head, 0);
     let mut climb = climb::begin(head, relief, a, b);
     while climb.stand.more {
         let step = climb::next(climb, a, b, &mut marks);
-        let sent = send_run(pass, step.found, &marks, &mut noted, file, out, place);
+        let sent = send_run(sending, step.found, &marks, &mut noted, file, out, place);
         if !sent.like {
             return sent;
         }

@@ -1,4 +1,5 @@
--- Every number of a motion lies from 2^-6 to below 2^20, so that it is printed as the shortest decimal.
+-- Every number of a motion lies from 2^-6 to below 2^20, so that it is printed as the shortest decimal. The law holds for reaches below 512 and
+-- columns and rows below 1024; those of a readable file are less.
 use mathlib.Core.Path.{_≡_, refl, sym, ap, _∙_, subst}
 use mathlib.Core.Bool.{Bool, true, false, cond, _||_, true≢false}
 use Prim.Native.Nat.{ℕ, zero, suc, _+_, _-_, _*_, _^_, _≤_, _<_}
@@ -14,7 +15,6 @@ use lib.Ieee.Back.{round-whole}
 use lib.Ieee.Order.{round-mono}
 use lib.Ieee.Positive.{num, den, positive, den-pos, own-value, value→cross, positive-of-value, le→cross, cross→le, values-of-le, between, mul-at}
 use Rattle.geometry.specs.declared.Plunge.{Plunge}
-use Rattle.geometry.specs.Forms.{largestReach}
 use Rattle.sink.specs.Sink.{micrometres, whole, sinkMillimetres}
 use Rattle.motion_floats.specs.declared.Scale.{Scale}
 use Rattle.motion_floats.specs.declared.Motion.{Motion}
@@ -105,23 +105,23 @@ pitch p e =
     let q : T (positive p) = between lo p hi tt tt from to in
     (q, omega (arith, le→cross lo p tt q from), omega (arith, le→cross p hi q tt to))
 
-times : (k n c : ℕ) → 1 ≤ k → k ≤ 511 → c ≤ n * 16 → n ≤ 4 * c → (1 * c ≤ k * n * 64) × (k * n ≤ 2044 * (1 * c))
+times : (k n c : ℕ) → 1 ≤ k → k ≤ 2047 → c ≤ n * 16 → n ≤ 4 * c → (1 * c ≤ k * n * 64) × (k * n ≤ 8188 * (1 * c))
 times k n c K K' lo hi =
     let a : 1 * n ≤ k * n = mul-le-mul-right n K in
-    let b : k * n ≤ 511 * n = mul-le-mul-right n K' in
+    let b : k * n ≤ 2047 * n = mul-le-mul-right n K' in
     (omega arith, omega arith)
 
 one-pos : (c : ℕ) → 0 < c → 0 < 1 * c
 one-pos c h = omega arith
 
-product : (k : ℕ) (p : Float) → 1 ≤ k → k ≤ 511 → within sixteenth (whole 4) p ≡ true → Between 2044 (mul binary64 (whole k) p)
+product : (k : ℕ) (p : Float) → 1 ≤ k → k ≤ 2047 → within sixteenth (whole 4) p ≡ true → Between 8188 (mul binary64 (whole k) p)
 product k p K K' e =
     let w = pitch p e in
     let v : HasValue (whole k) false k 1 = whole-value k (omega arith) in
     let t = times k (num p) (den p) K K' (w .1) (w .2) in
-    subst (λ (z : Float). Between 2044 z) (sym
+    subst (λ (z : Float). Between 8188 z) (sym
     (mul-at binary64 (whole k) p k 1 (num p) (den p) (positive-of-value (whole k) k 1 v K) (w .0) (lit< tt) (den-pos p) v (own-value p (w .0))))
-    (rounded 2044 (k * num p) (1 * den p) (lit< tt) (lit≤ tt) (one-pos (den p) (den-pos p)) (t .0) (t .1))
+    (rounded 8188 (k * num p) (1 * den p) (lit< tt) (lit≤ tt) (one-pos (den p) (den-pos p)) (t .0) (t .1))
 
 -- ---- an offset plus a product
 
@@ -142,11 +142,11 @@ offset-zero : (m : ℕ) (e : ℤ) → T (le (fin false 0 (pos 0)) (fin true m e)
 unfolding le
 offset-zero m e t = omega (arith, eqb→eq (0 * down e) (m * up e * 1) (and-l (eqb (0 * down e) (m * up e * 1)) (false || eqb (0 * down e) 0) t))
 
-plus : (m n e d : ℕ) → m ≤ 1000 * e → d ≤ n * 64 → n ≤ 2044 * d → (e * d ≤ (m * d + n * e) * 64) × (m * d + n * e ≤ 4096 * (e * d))
+plus : (m n e d : ℕ) → m ≤ 1000 * e → d ≤ n * 64 → n ≤ 8188 * d → (e * d ≤ (m * d + n * e) * 64) × (m * d + n * e ≤ 16384 * (e * d))
 plus m n e d h lo hi =
     let a : m * d ≤ 1000 * (e * d) = le-trans (mul-le-mul-right d h) (le-of-eq (mul-assoc 1000 e d)) in
     let b : e * d ≤ n * e * 64 = le-trans (le-of-eq (mul-comm e d)) (le-trans (mul-le-mul-right e lo) (le-of-eq (mul-right-comm n 64 e))) in
-    let c : n * e ≤ 2044 * (e * d) = le-trans (mul-le-mul-right e hi) (le-of-eq (mul-assoc 2044 d e ∙ ap (λ (x : ℕ). 2044 * x) (mul-comm d e))) in
+    let c : n * e ≤ 8188 * (e * d) = le-trans (mul-le-mul-right e hi) (le-of-eq (mul-assoc 8188 d e ∙ ap (λ (x : ℕ). 8188 * x) (mul-comm d e))) in
     (omega arith, omega arith)
 
 zero-sum : (a b c : ℕ) → a ≡ 0 → 0 < b → sum binary64 true a false b c ≡ round binary64 false (a + b) c
@@ -166,11 +166,11 @@ add-zero-is : (m : ℕ) (e : ℤ) (n : ℕ) (d : ℤ)
 unfolding add
 add-zero-is m e n d = refl
 
-rounded-sum : (m : ℕ) (e : ℤ) (n : ℕ) (d : ℤ) → m * up e ≤ 1000 * down e → Between 2044 (fin false n d)
-    → Between 4096 (round binary64 false (m * up e * down d + n * up d * down e) (down e * down d))
+rounded-sum : (m : ℕ) (e : ℤ) (n : ℕ) (d : ℤ) → m * up e ≤ 1000 * down e → Between 8188 (fin false n d)
+    → Between 16384 (round binary64 false (m * up e * down d + n * up d * down e) (down e * down d))
 rounded-sum m e n d h b =
     let t = plus (m * up e) (n * up d) (down e) (down d) h (b .1) (b .2) in
-    rounded 4096 (m * up e * down d + n * up d * down e) (down e * down d) (lit< tt) (lit≤ tt) (mul-pos (down-pos e) (down-pos d)) (t .0) (t .1)
+    rounded 16384 (m * up e * down d + n * up d * down e) (down e * down d) (lit< tt) (lit≤ tt) (mul-pos (down-pos e) (down-pos d)) (t .0) (t .1)
 
 nought : (m d : ℕ) → m ≡ 0 → m * d ≡ 0
 nought m d e = rw (e, zero-mul d)
@@ -178,7 +178,7 @@ nought m d e = rw (e, zero-mul d)
 low-enough : (m c : ℕ) → m ≡ 0 → m ≤ 1000 * c
 low-enough m c e = omega arith
 
-offset-plus : (x z : Float) → T (le (fin false 0 (pos 0)) x) → T (le x (fin false 125 (pos 3))) → Between 2044 z → Between 4096 (add binary64 x z)
+offset-plus : (x z : Float) → T (le (fin false 0 (pos 0)) x) → T (le x (fin false 125 (pos 3))) → Between 8188 z → Between 16384 (add binary64 x z)
 unfolding le
 offset-plus x nan f t b = absurd (b .0)
 offset-plus x (inf s) f t b = absurd (b .0)
@@ -186,11 +186,11 @@ offset-plus x (fin true n d) f t b = absurd (b .0)
 offset-plus nan (fin false n d) f t b = absurd f
 offset-plus (inf true) (fin false n d) f t b = absurd f
 offset-plus (inf false) (fin false n d) f t b = absurd t
-offset-plus (fin false m e) (fin false n d) f t b = subst (λ (z : Float). Between 4096 z) (sym (add-is m e n d)) (rounded-sum m e n d (offset-most m e t) b)
+offset-plus (fin false m e) (fin false n d) f t b = subst (λ (z : Float). Between 16384 z) (sym (add-is m e n d)) (rounded-sum m e n d (offset-most m e t) b)
 offset-plus (fin true m e) (fin false n d) f t b =
     let z : m * up e ≡ 0 = offset-zero m e f in
     let p : 0 < n * up d = mul-pos (ltb→lt 0 n (b .0)) (up-pos d) in
-    subst (λ (z : Float). Between 4096 z) (sym
+    subst (λ (z : Float). Between 16384 z) (sym
     (add-zero-is m e n d ∙ zero-sum (m * up e * down d) (n * up d * down e) (down e * down d) (nought (m * up e) (down d) z)
     (mul-pos p (down-pos e))))
     (rounded-sum m e n d (low-enough (m * up e) (down e) z) b)
@@ -229,18 +229,18 @@ most-sink d h = let l : d ≤ 255 = omega arith in let s : d * d ≤ 255 * 255 =
 
 -- ---- the motions
 
-pub change-printable : (s : Scale) (reach : ℕ) → scaleInRange s ≡ true → reach ≤ largestReach → printable (changeWidth s reach) ≡ true
+pub change-printable : (s : Scale) (reach : ℕ) → scaleInRange s ≡ true → reach < 512 → printable (changeWidth s reach) ≡ true
 change-printable s reach e h =
-    between-printable 2044 (changeWidth s reach) (lit< tt)
+    between-printable 8188 (changeWidth s reach) (lit< tt)
     (product (2 * (2 * reach + 1)) (s .«half_pitch») (omega arith) (omega arith)
     (both (within sixteenth (whole 4) (s .«half_pitch»))
     (cond (within (whole 0) (whole 1000) (s .«column_offset»)) (within (whole 0) (whole 1000) (s .«row_offset»)) false) e .0))
 
-pub travel-printable : (p offset : Float) (cell : ℕ) → within sixteenth (whole 4) p ≡ true → within (whole 0) (whole 1000) offset ≡ true → cell < 256
+pub travel-printable : (p offset : Float) (cell : ℕ) → within sixteenth (whole 4) p ≡ true → within (whole 0) (whole 1000) offset ≡ true → cell < 1024
     → printable (travelTo p offset cell) ≡ true
 travel-printable p offset cell e o h =
     let w = both (le (whole 0) offset) (le offset (whole 1000)) o in
-    between-printable 4096 (travelTo p offset cell) (lit< tt)
+    between-printable 16384 (travelTo p offset cell) (lit< tt)
     (offset-plus offset (mul binary64 (whole (2 * cell + 1)) p)
     (subst (λ (x : Float). T (le x offset)) nothing-is (test (le (whole 0) offset) (w .0)))
     (subst (λ (x : Float). T (le offset x)) thousand-is (test (le offset (whole 1000)) (w .1)))
@@ -256,7 +256,7 @@ printableMotion Stay = true
 printableMotion (Travel x y) = cond (printable x) (printable y) false
 printableMotion (Sink depth) = printable depth
 
-pub motions-printable : (s : Scale) (changed : Bool) (q : Plunge) → scaleInRange s ≡ true → q .reach .0 ≤ largestReach → q .column < 256 → q .row < 256
+pub motions-printable : (s : Scale) (changed : Bool) (q : Plunge) → scaleInRange s ≡ true → q .reach .0 < 512 → q .column < 1024 → q .row < 1024
     → 1 ≤ q .depth → q .depth < 256
     → (printableMotion (motionsOf s changed q .first) ≡ true) × (printableMotion (motionsOf s changed q .second) ≡ true)
     × (printableMotion (motionsOf s changed q .third) ≡ true)

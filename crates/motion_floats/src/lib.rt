@@ -52,7 +52,7 @@ pub fn in_range(scale: Scale) -> bool
 
 // ---- one plunge
 
-fn change_width(scale: Scale, reach: u8) -> f64
+fn change_width(scale: Scale, reach: u16) -> f64
     ensures { λ r. ⌜ r ≡ changeWidth scale reach ⌝ }
 {
     let n = 2 * (2 * (reach as u32) + 1);
@@ -67,7 +67,7 @@ fn travel_to(half: f64, offset: f64, cell: u16) -> f64
     offset + (n as f64) * half
 }
 
-fn change_or_stay(scale: Scale, changed: bool, reach: u8) -> Motion
+fn change_or_stay(scale: Scale, changed: bool, reach: u16) -> Motion
     ensures { λ r. ⌜ r ≡ cond changed (Motion.Change (changeWidth scale reach)) Motion.Stay ⌝ }
 {
     if changed {

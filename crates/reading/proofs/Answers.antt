@@ -2,12 +2,15 @@
 use mathlib.Core.Path.{_≡_, refl, sym, ap, _∙_}
 use mathlib.Core.Bool.{Bool, true, false}
 use mathlib.Core.List.{List, _++_}
-use Prim.Native.Nat.{ℕ, _+_, _≤_, _<_}
+use Prim.Native.Nat.{ℕ, suc, _+_, _≤_, _<_}
 use native.Mathlib.Omega.{arith}
 use native.Mathlib.Decide.{decLe}
 use borrow.Author.Tests.{le-leb}
-use lib.ListN.{length, getD}
+use lib.ListN.{length}
+use Rattle.geometry.specs.declared.Head.{Head}
 use Rattle.geometry.specs.declared.Plunge.{Plunge}
+use Rattle.geometry.specs.declared.Size.{Size}
+use Rattle.geometry.specs.Sizes.{sizeOf}
 use Rattle.geometry.specs.Forms.{largestReach}
 use Rattle.refusal.specs.declared.Refusal.{Refusal}
 use Rattle.refusal.specs.declared.Verdict.{Verdict}
@@ -16,10 +19,11 @@ use Rattle.refusal.specs.Refusals.{Trial, firstMet}
 use Rattle.reading.specs.declared.Job.{Job}
 use Rattle.reading.specs.declared.ReadAnswer.the-variants.{Readable, Unreadable}
 use Rattle.reading.specs.declared.MaybePlunge.the-variants.{OfPlunge, NoPlunge}
-use Rattle.reading.specs.Reading.{IsReadable, fileTrials, headIn, plungeAt, total, readAnswer, read}
+use Rattle.reading.specs.Reading.{IsReadable, fileTrials, headIn, plungeAt, nthPlunge, total, readAnswer, read}
 use Rattle.reading.proofs.Steps.{andThen, first-append, both-accepted, wide-ball}
 use Rattle.reading.proofs.Readable.{readable-sound}
 use Rattle.fields.specs.Fields.{plungeBytes, place}
+use Rattle.fields.proofs.Encoding.{place-next, place-le, place-few}
 use Rattle.reading.specs.Steps.{JobOf, plungeIf}
 
 -- ---- the file's faults first
@@ -47,27 +51,43 @@ read-accepted f j = go (firstMet (fileTrials f)) refl
     go Accepted r e = record { readable = r; head = cc; plunges = cc }
     go (Refused q) r e = let z : _≡_ {A = ℕ} 0 1 = cc in absurd (omega arith)
 
+-- a file has more bytes than plunges
+pub total-few : (f : List ℕ) → IsReadable f → total f + 7 ≤ length f
+total-few f ok = omega (arith, readable-sound f ok .room, place-few (headIn f) (total f))
+
 -- ---- a plunge by its number
 
 -- its field lies in the file, and its reach is one
-pub plunge-asks : (f : List ℕ) (i : ℕ) → IsReadable f → i < total f → (place (headIn f) i + plungeBytes ≤ length f)
-    × (getD f (place (headIn f) i + 5) 0 ≤ largestReach)
-plunge-asks f i ok h = (omega (arith, readable-sound f ok .room), go (decLe (getD f (place (headIn f) i + 5) 0) largestReach))
+pub plunge-asks : (f : List ℕ) (i : ℕ) → IsReadable f → i < total f → (place (headIn f) i + plungeBytes (sizeOf (headIn f)) ≤ length f)
+    × (nthPlunge f i .reach .0 ≤ largestReach)
+plunge-asks f i ok h = (
+  omega (arith, readable-sound f ok .room, place-next (headIn f) i, place-le (headIn f) (suc-le h)),
+  go (decLe (nthPlunge f i .reach .0) largestReach),
+)
   where
-    go : Dec (getD f (place (headIn f) i + 5) 0 ≤ largestReach) → getD f (place (headIn f) i + 5) 0 ≤ largestReach
+    suc-le : {a b : ℕ} → a < b → suc a ≤ b
+    suc-le l = omega arith
+
+    go : Dec (nthPlunge f i .reach .0 ≤ largestReach) → nthPlunge f i .reach .0 ≤ largestReach
     go (yes l) = l
     go (no l) =
         let s = readable-sound f ok in
-        let e : _≡_ {A = Bool} true false = sym (s .fits i h) ∙ wide-ball (headIn f) (plungeAt f (place (headIn f) i)) (s .sides .narrow) (omega arith) in
+        let e : _≡_ {A = Bool} true false = sym (s .fits i h) ∙ wide-ball (headIn f) (nthPlunge f i) (s .sides .narrow) (omega arith) in
         let z : _≡_ {A = ℕ} 0 1 = cc in
         absurd (omega arith)
 
 -- a field whose reach is one gives its plunge
-pub is-plunge : (f : List ℕ) (at : ℕ) → getD f (at + 5) 0 ≤ largestReach → plungeIf f at ≡ OfPlunge (plungeAt f at)
-is-plunge f at h = rw (le-leb _ _ h)
+module _ (s : Size) (f : List ℕ) (at : ℕ) (h : plungeAt s f at .reach .0 ≤ largestReach) where
+  pub is-plunge : plungeIf s f at ≡ OfPlunge (plungeAt s f at)
+  is-plunge = rw (le-leb _ _ h)
 
-pub found-plunge : (f : List ℕ) (at : ℕ) (q : Plunge) → getD f (at + 5) 0 ≤ largestReach → OfPlunge q ≡ plungeIf f at → q ≡ plungeAt f at
-found-plunge f at q h e = let z : OfPlunge q ≡ OfPlunge (plungeAt f at) = e ∙ is-plunge f at h in cc
+  pub found-plunge : (q : Plunge) → OfPlunge q ≡ plungeIf s f at → q ≡ plungeAt s f at
+  found-plunge q e = let z : OfPlunge q ≡ OfPlunge (plungeAt s f at) = e ∙ is-plunge in cc
 
-pub no-plunge : {A : Type 0} (f : List ℕ) (at : ℕ) → getD f (at + 5) 0 ≤ largestReach → NoPlunge ≡ plungeIf f at → A
-no-plunge f at h e = let y : NoPlunge ≡ OfPlunge (plungeAt f at) = e ∙ is-plunge f at h in let z : _≡_ {A = ℕ} 0 1 = cc in absurd (omega arith)
+  pub no-plunge : {A : Type 0} → NoPlunge ≡ plungeIf s f at → A
+  no-plunge e = let y : NoPlunge ≡ OfPlunge (plungeAt s f at) = e ∙ is-plunge in let z : _≡_ {A = ℕ} 0 1 = cc in absurd (omega arith)
+
+-- the field of plunge number i, by a head, its size and a place that were found
+pub nth-field : (f : List ℕ) (i : ℕ) (h : Head) (s : Size) (at : ℕ) → h ≡ headIn f → s ≡ sizeOf h → at ≡ place h i
+    → plungeIf s f at ≡ plungeIf (sizeOf (headIn f)) f (place (headIn f) i)
+nth-field f i h s at e z a = (λ k. plungeIf (z k) f (a k)) ∙ ap (λ (o : Head). plungeIf (sizeOf o) f (place o i)) e

@@ -1,13 +1,18 @@
 -- What the loop over the fields keeps, and how a field carries it on.
-use mathlib.Core.Path.{_≡_, refl, sym, ap, _∙_}
+use mathlib.Core.Path.{_≡_, refl, sym, ap, _∙_, subst}
 use mathlib.Core.Bool.{Bool, true, false, cond}
 use mathlib.Core.List.{List, []}
-use Prim.Native.Nat.{ℕ, suc, _+_, _-_, _≤_}
+use Prim.Native.Nat.{ℕ, suc, _+_, _-_, _*_, _≤_}
 use native.Mathlib.Omega.{arith}
 use native.Mathlib.Numerals.{add-one}
 use lib.ListN.{length, getD}
 use Rattle.geometry.specs.declared.Head.{Head}
+use Rattle.geometry.specs.declared.Size.{Size}
+use Rattle.geometry.specs.declared.Size.the-variants.{Small}
+use Rattle.geometry.specs.Sizes.{sizeOf}
 use Rattle.geometry.specs.Plunges.{fitsPlate}
+use Rattle.geometry.proofs.Sizes.{small-size}
+use Rattle.refusal.specs.Sides.{Sides}
 use Rattle.refusal.specs.declared.Refusal.{Refusal}
 use Rattle.refusal.specs.declared.Verdict.{Verdict}
 use Rattle.refusal.specs.declared.Verdict.the-variants.{Accepted, Refused}
@@ -18,8 +23,9 @@ use Rattle.reading.specs.declared.ReadAnswer.the-variants.{Readable, Unr
 use Rattle.reading.specs.Reading.{headIn, isEnd, isPlunge, plungeAt, headTrials, plungeTrials, fieldTrials, fieldsFrom, fileTrials, total, readAnswer, read}
 use Rattle.reading_fields.specs.Openings.{numberAt, endTrials}
 use Rattle.reading.specs.Steps.{stepOf, stepAt}
-use Rattle.reading.proofs.Steps.{andThen, first-append, head-right, field-right, right-plunge, right-end}
-use Rattle.fields.specs.Fields.{headBytes, plungeBytes, endBytes, place}
+use Rattle.reading.proofs.Steps.{andThen, first-append, head-right, field-right, right-plunge, right-end, contained-plunge, contained-end}
+use Rattle.fields.specs.Fields.{headBytes, plungeBytes, endBytes, place, fileLength}
+use Rattle.fields.proofs.Encoding.{place-next, place-few, length-total}
 
 -- ---- one field, and those after it
 
@@ -52,33 +58,38 @@ ended-by b (Refused r) e = let z : _≡_ {A = ℕ} 0 1 = cc in absurd (omega ari
 
 -- what a right plunge's field has
 pub record Passed (p : Head) (f : List ℕ) (n : ℕ) : Type 0 where
-  pub room : place p n + plungeBytes ≤ length f
-  pub tagged : isPlunge f (place p n) ≡ true
-  pub fits : fitsPlate p (plungeAt f (place p n)) ≡ true
-  pub deep : 1 ≤ plungeAt f (place p n) .depth
+  pub room : place p n + plungeBytes (sizeOf p) ≤ length f
+  pub tagged : isPlunge (sizeOf p) f (place p n) ≡ true
+  pub fits : fitsPlate p (plungeAt (sizeOf p) f (place p n)) ≡ true
+  pub deep : 1 ≤ plungeAt (sizeOf p) f (place p n) .depth
 
 pub onward : (p : Head) (f : List ℕ) (n : ℕ) → stepAt p f n ≡ Onward → Passed p f n
 onward p f n e =
     let t = onward-by (isEnd f (place p n)) (firstMet (fieldTrials p f n)) e in
     let s = field-right p f n (t .1) in
     let c = right-plunge p f (place p n) (ap (λ b. firstMet (cond b (endTrials f (place p n) n) (plungeTrials p f (place p n)))) (sym (t .0)) ∙ s .2) in
-    record { room = s .0; tagged = ap (λ b. cond b true (isPlunge f (place p n))) (sym (t .0)) ∙ s .1; fits = c .0; deep = c .1 }
+    record {
+      room = contained-plunge p f (place p n) (s .0) (t .0);
+      tagged = ap (λ b. cond b true (isPlunge (sizeOf p) f (place p n))) (sym (t .0)) ∙ s .1;
+      fits = c .0;
+      deep = c .1;
+    }
 
 -- what the right end field has
-pub record Closed (f : List ℕ) (n : ℕ) : Type 0 where
-  pub tagged : isEnd f (place (headIn f) n) ≡ true
-  pub number : numberAt f (place (headIn f) n) ≡ n
-  pub whole : length f ≡ place (headIn f) n + endBytes
+pub record Closed (p : Head) (f : List ℕ) (n : ℕ) : Type 0 where
+  pub tagged : isEnd f (place p n) ≡ true
+  pub number : numberAt f (place p n) ≡ n
+  pub whole : length f ≡ fileLength p n
 
-pub ended : (p : Head) (f : List ℕ) (n : ℕ) → stepAt p f n ≡ Ended → Closed f n
+pub ended : (p : Head) (f : List ℕ) (n : ℕ) → stepAt p f n ≡ Ended → Closed p f n
 ended p f n e =
     let t = ended-by (isEnd f (place p n)) (firstMet (fieldTrials p f n)) e in
     let s = field-right p f n (t .1) in
     let c = right-end f (place p n) n (ap (λ b. firstMet (cond b (endTrials f (place p n) n) (plungeTrials p f (place p n)))) (sym (t .0)) ∙ s .2) in
-    record { tagged = t .0; number = c .0; whole = omega (arith, s .0, c .1) }
+    record { tagged = t .0; number = c .0; whole = omega (arith, contained-end p f (place p n) (s .0) (t .0), c .1) }
 
-pub whole-total : (f : List ℕ) (n : ℕ) → length f ≡ place (headIn f) n + endBytes → total f ≡ n
-whole-total f n e = omega arith
+pub whole-total : (f : List ℕ) (n : ℕ) → length f ≡ fileLength (headIn f) n → total f ≡ n
+whole-total f n e = length-total (headIn f) (length f) n e
 
 -- ---- the loop
 
@@ -87,7 +98,7 @@ pub record Reading (p : Head) (f : List ℕ) (n : ℕ) : Type 0 where
   pub within : place p n ≤ length f
   pub rest : firstMet (fieldsFrom (suc (length f) - n) p f n) ≡ firstMet (fieldsFrom (suc (length f)) p f 0)
 
-pub begun : (p : Head) (f : List ℕ) → headBytes ≤ length f → Reading p f 0
+pub begun : (p : Head) (f : List ℕ) → place p 0 ≤ length f → Reading p f 0
 begun p f h =
     let e : suc (length f) - 0 ≡ suc (length f) = omega arith in
     record { within = h; rest = ap (λ (k : ℕ). firstMet (fieldsFrom k p f 0)) e }
@@ -95,7 +106,7 @@ begun p f h =
 module _ (p : Head) (f : List ℕ) (n : ℕ) (r : Reading p f n) where
   answered : afterStep (stepAt p f n) (firstMet (fieldsFrom (length f - n) p f (suc n))) ≡ firstMet (fieldsFrom (suc (length f)) p f 0)
   answered =
-      let e : suc (length f) - n ≡ suc (length f - n) = omega (arith, r .within) in
+      let e : suc (length f) - n ≡ suc (length f - n) = omega (arith, r .within, place-few p n) in
       sym (fields-step (length f - n) p f n) ∙ ap (λ (k : ℕ). firstMet (fieldsFrom k p f n)) (sym e) ∙ r .rest
 
   pub turned : stepAt p f n ≡ Onward → Reading p f (n + 1)
@@ -103,7 +114,7 @@ module _ (p : Head) (f : List ℕ) (n : ℕ) (r : Reading p f n) where
       let room = onward p f n e .room in
       let k : suc (length f) - (n + 1) ≡ length f - n = omega arith in
       record {
-        within = omega arith;
+        within = omega (arith, ap (place p) (add-one n), place-next p n);
         rest =
             ap (λ (m : ℕ). firstMet (fieldsFrom m p f (n + 1))) k
             ∙ ap (λ (m : ℕ). firstMet (fieldsFrom (length f - n) p f m)) (add-one n)
@@ -113,7 +124,7 @@ module _ (p : Head) (f : List ℕ) (n : ℕ) (r : Reading p f n) where
 
   pub stopped : p ≡ headIn f → stepAt p f n ≡ Ended → Readable (record { head = p; plunges = n }) ≡ readAnswer (firstMet (fieldsFrom (suc (length f)) p f 0)) f
   stopped h e =
-      let t = whole-total f n (ended p f n e .whole) in
+      let t = whole-total f n (ended p f n e .whole ∙ ap (λ (o : Head). fileLength o n) h) in
       (λ i. Readable (record { head = h i; plunges = sym t i }))
       ∙ ap (λ v. readAnswer v f) (ap (λ s. afterStep s (firstMet (fieldsFrom (length f - n) p f (suc n)))) (sym e) ∙ answered)
 
@@ -123,8 +134,20 @@ module _ (p : Head) (f : List ℕ) (n : ℕ) (r : Reading p f n) where
 -- ---- the file: its head, then its fields
 
 -- the head made of three bytes of a file
-pub head-is : (f : List ℕ) (h : Head) (x y : ℕ) → h ≡ headOf (getD f 3 0) x y → x ≡ getD f 4 0 → y ≡ getD f 5 0 → h ≡ headIn f
-head-is f h x y e a b = e ∙ ap (λ (w : ℕ). headOf (getD f 3 0) w y) a ∙ ap (λ (w : ℕ). headOf (getD f 3 0) (getD f 4 0) w) b
+pub head-is : (f : List ℕ) (h : Head) (x y : ℕ) → firstMet (headTrials f) ≡ Accepted → h ≡ headOf (getD f 3 0) x y → x ≡ getD f 4 0 → y ≡ getD f 5 0
+    → h ≡ headIn f
+head-is f h x y g e a b =
+    e ∙ ap (λ (w : ℕ). headOf (getD f 3 0) w y) a ∙ ap (λ (w : ℕ). headOf (getD f 3 0) (getD f 4 0) w) b ∙ sym (head-right f g .head)
+
+-- a head that was read has a small plate, and the fields follow it
+pub small-head : (f : List ℕ) → Sides (headIn f) → sizeOf (headIn f) ≡ Small
+small-head f s = small-size (headIn f) (s .narrow) (s .low)
+
+pub head-begins : (f : List ℕ) (h : Head) → h ≡ headIn f → firstMet (headTrials f) ≡ Accepted → place h 0 ≤ length f
+head-begins f h e g =
+    let r = head-right f g in
+    subst (λ (o : Head). place o 0 ≤ length f) (sym e)
+    (subst (λ (s : Size). headBytes s + plungeBytes s * 0 ≤ length f) (sym (small-head f (r .sides))) (r .room))
 
 pub head-narrow : (f : List ℕ) (h : Head) → h ≡ headIn f → firstMet (headTrials f) ≡ Accepted → h .width ≤ largestSide
 head-narrow f h e g = let s = head-right f g .sides .narrow in omega (arith, ap (λ o. o .width) e)

@@ -7,29 +7,47 @@ use lib.Dec.{eqb}
 use lib.ListN.{length, getD}
 use Rattle.geometry.specs.declared.Head.{Head}
 use Rattle.geometry.specs.declared.Plunge.{Plunge}
+use Rattle.geometry.specs.declared.Size.{Size}
+use Rattle.geometry.specs.declared.Size.the-variants.{Small, Large}
+use Rattle.geometry.specs.Sizes.{sizeOf}
 use Rattle.geometry.specs.Lists.{gather}
 use Rattle.geometry.specs.Plunges.{fitsPlate}
 use Rattle.refusal.specs.declared.Verdict.{Verdict}
 use Rattle.refusal.specs.declared.Verdict.the-variants.{Accepted, Refused}
 use Rattle.refusal.specs.Refusals.{Trial, trial, firstMet, badKind, badSides, headOf}
 use Rattle.fields.specs.Fields.{headTag, headSize, plungeTag, plungeSize, plungeBytes, endTag, endSize, place, fileLength}
-use Rattle.reading_fields.specs.Openings.{opens, openTrials, endTrials}
+use Rattle.reading_fields.specs.Openings.{pairAt, opens, openTrials, endTrials}
 use Rattle.reading.specs.declared.ReadAnswer.{ReadAnswer}
 use Rattle.reading.specs.declared.ReadAnswer.the-variants.{Readable, Unreadable}
 
 -- ---- the bytes of a field that begins at a place
 
+-- the size that the head's tag tells
+abbrev pub sizeIn : List ℕ → Size
+sizeIn f = cond (eqb (getD f 0 0) (headTag Large)) Large Small
+
 -- the head that the first field holds
+abbrev pub headAs : Size → List ℕ → Head
+headAs Small f = headOf (getD f 3 0) (getD f 4 0) (getD f 5 0)
+headAs Large f = headOf (getD f 3 0) (pairAt f 4 5) (pairAt f 6 7)
+
 abbrev pub headIn : List ℕ → Head
-headIn f = headOf (getD f 3 0) (getD f 4 0) (getD f 5 0)
+headIn f = headAs (sizeIn f) f
 
 -- a plunge's field, and the plunge in it
-abbrev pub isPlunge : List ℕ → ℕ → Bool
-isPlunge = opens plungeTag plungeSize
+abbrev pub isPlunge : Size → List ℕ → ℕ → Bool
+isPlunge s = opens (plungeTag s) (plungeSize s)
 
-abbrev pub plungeAt : List ℕ → ℕ → Plunge
-plungeAt f at =
+abbrev pub plungeAt : Size → List ℕ → ℕ → Plunge
+plungeAt Small f at =
     record { column = getD f (at + 3) 0; row = getD f (at + 4) 0; reach = record { 0 = getD f (at + 5) 0 }; depth = getD f (at + 6) 0 }
+plungeAt Large f at =
+    record {
+      column = pairAt f (at + 3) (at + 4);
+      row = pairAt f (at + 5) (at + 6);
+      reach = record { 0 = pairAt f (at + 7) (at + 8) };
+      depth = getD f (at + 9) 0;
+    }
 
 -- an end field
 abbrev pub isEnd : List ℕ → ℕ → Bool
@@ -41,18 +59,18 @@ isEnd = opens endTag endSize
 abbrev pub plateTrials : ℕ → ℕ → ℕ → List Trial
 plateTrials k w h = trial (badKind k) 1 0 ∷ trial (badSides w h) 2 0 ∷ []
 
--- "1 head, first, once": its opening, then its content
+-- "1 head, first, once": its opening, that of a small plate, then its content
 abbrev pub headTrials : List ℕ → List Trial
-headTrials f = openTrials f 0 (opens headTag headSize f 0) headSize ++ plateTrials (getD f 3 0) (getD f 4 0) (getD f 5 0)
+headTrials f = openTrials f 0 (opens (headTag Small) (headSize Small) f 0) (headSize Small) ++ plateTrials (getD f 3 0) (getD f 4 0) (getD f 5 0)
 
 -- "8: ball leaves the plate", "9: depth 0"
 abbrev pub plungeTrials : Head → List ℕ → ℕ → List Trial
-plungeTrials p f at = trial (not (fitsPlate p (plungeAt f at))) 8 at ∷ trial (eqb (plungeAt f at .depth) 0) 9 at ∷ []
+plungeTrials p f at = trial (not (fitsPlate p (plungeAt (sizeOf p) f at))) 8 at ∷ trial (eqb (plungeAt (sizeOf p) f at .depth) 0) 9 at ∷ []
 
 -- a field after the head, with n plunges before it: a plunge's or the end
 abbrev pub fieldTrials : Head → List ℕ → ℕ → List Trial
 fieldTrials p f n =
-    openTrials f (place p n) (cond (isEnd f (place p n)) true (isPlunge f (place p n))) plungeSize
+    openTrials f (place p n) (cond (isEnd f (place p n)) true (isPlunge (sizeOf p) f (place p n))) (cond (isEnd f (place p n)) endSize (plungeSize (sizeOf p)))
     ++ cond (isEnd f (place p n)) (endTrials f (place p n) n) (plungeTrials p f (place p n))
 
 -- the fields from one on, up to the end field; no file has more fields than bytes
@@ -70,13 +88,13 @@ fileTrials f = headTrials f ++ fieldsFrom (suc (length f)) (headIn f) f 0
 abbrev pub IsReadable : List ℕ → Type 0
 IsReadable f = firstMet (fileTrials f) ≡ Accepted
 
--- "Total plunges n make 13 + 7·n bytes."
+-- "Total plunges n make 13 + 7·n bytes."; of a large plate "15 + 10·n"
 abbrev pub total : List ℕ → ℕ
-total f = (length f - fileLength (headIn f) 0) / plungeBytes
+total f = (length f - fileLength (headIn f) 0) / plungeBytes (sizeOf (headIn f))
 
 -- plunge number i of a file, from 0; the first n plunges, in their order; all plunges
 abbrev pub nthPlunge : List ℕ → ℕ → Plunge
-nthPlunge f i = plungeAt f (place (headIn f) i)
+nthPlunge f i = plungeAt (sizeOf (headIn f)) f (place (headIn f) i)
 
 abbrev pub plungesUpTo : ℕ → List ℕ → List Plunge
 plungesUpTo n f = gather n 0 (λ i. nthPlunge f i ∷ [])

@@ -3,15 +3,19 @@ use geometry::Head;
 use geometry::MaybeReach;
 use geometry::Plunge;
 use geometry::Reach;
+use geometry::Size;
 use refusal::Refusal;
 use refusal::Verdict;
 ghost use mathlib.Core.Path.{_≡_};
 ghost use Prim.Native.Nat.{suc, _+_, _≤_, _<_};
 ghost use lib.ListN.{length};
+ghost use Rattle.refusal.specs.declared.Verdict.the-variants.{Accepted};
 ghost use Rattle.refusal.specs.Refusals.{largestSide, firstMet};
-ghost use Rattle.fields.specs.Fields.{headBytes, plungeBytes, place};
+ghost use Rattle.geometry.specs.declared.Size.the-variants.{Small, Large};
+ghost use Rattle.geometry.specs.Sizes.{sizeOf};
+ghost use Rattle.fields.specs.Fields.{plungeBytes, place};
 ghost use Rattle.reading.specs.Reading.{headIn, plateTrials, headTrials, plungeTrials, fieldsFrom, readAnswer, read, nthPlunge, total};
-ghost use Rattle.reading.specs.Steps.{stepOf, contentStep, stepAt, plungeIf, JobOf};
+ghost use Rattle.reading.specs.Steps.{stepOf, contentStep, stepAt, plungeOf, plungeIf, Contained, JobOf};
 
 // What a readable file says: its plate, and how many plunges follow.
 pub struct Job {
@@ -38,8 +42,8 @@ pub enum Step {
     Fault(Refusal),
 }
 
-// A byte as a side, a column or a row.
-fn side(byte: u8) -> u16
+// A byte as a side, a column, a row or a reach.
+fn wide(byte: u8) -> u16
     ensures { λ r. ⌜ r ≡ byte ⌝ }
 {
     byte as u16
@@ -64,35 +68,74 @@ fn check_plate(kind: u8, width: u16, height: u16) -> Verdict
 fn check_head(file: &[u8]) -> Verdict
     ensures { λ r. ⌜ r ≡ firstMet (headTrials (now (file .entry))) ⌝ }
 {
-    let opening = reading_fields::check_open(
-        file,
-        0,
-        fields::HEAD_TAG,
-        fields::HEAD_TAG,
-        fields::HEAD_SIZE as usize,
-    );
+    let head = reading_fields::head_opening(Size::Small);
+    let opening = reading_fields::check_open(file, 0, head, head);
     match opening {
-        Verdict::Accepted => check_plate(file[3], side(file[4]), side(file[5])),
+        Verdict::Accepted => check_plate(file[3], wide(file[4]), wide(file[5])),
         Verdict::Refused(r) => Verdict::Refused(r),
     }
 }
 
+// The head of a file whose head's field refuses nothing.
+pub fn head_in(file: &[u8]) -> Head
+    requires { ⌜ firstMet (headTrials (now file)) ≡ Accepted ⌝ }
+    ensures { λ r. ⌜ r ≡ headIn (now (file .entry)) ⌝ }
+{
+    refusal::head_of(file[3], wide(file[4]), wide(file[5]))
+}
+
 // ---- a plunge's field
 
-// The plunge of the field at a place.
-pub fn plunge_at(file: &[u8], at: usize) -> MaybePlunge
-    requires { ⌜ at + plungeBytes ≤ length (now file) ⌝ }
-    ensures { λ r. ⌜ r ≡ plungeIf (now (file .entry)) at ⌝ }
+// A plunge of these numbers, if its reach is one.
+fn plunge_of(column: u16, row: u16, reach: u16, depth: u8) -> MaybePlunge
+    ensures { λ r. ⌜ r ≡ plungeOf column row reach depth ⌝ }
 {
-    let maybe = Reach::read(file[at + 5]);
+    let maybe = Reach::read(reach);
     match maybe {
         MaybeReach::OfReach(reach) => MaybePlunge::OfPlunge(Plunge {
-            column: side(file[at + 3]),
-            row: side(file[at + 4]),
+            column,
+            row,
             reach,
-            depth: file[at + 6],
+            depth,
         }),
         MaybeReach::NoReach => MaybePlunge::NoPlunge,
+    }
+}
+
+// The plunge of a small plate's field at a place.
+fn small_plunge(file: &[u8], at: usize) -> MaybePlunge
+    requires { ⌜ at + plungeBytes Small ≤ length (now file) ⌝ }
+    ensures { λ r. ⌜ r ≡ plungeIf Small (now (file .entry)) at ⌝ }
+{
+    plunge_of(
+        wide(file[at + 3]),
+        wide(file[at + 4]),
+        wide(file[at + 5]),
+        file[at + 6],
+    )
+}
+
+// That of a large plate's.
+fn large_plunge(file: &[u8], at: usize) -> MaybePlunge
+    requires { ⌜ at + plungeBytes Large ≤ length (now file) ⌝ }
+    ensures { λ r. ⌜ r ≡ plungeIf Large (now (file .entry)) at ⌝ }
+{
+    plunge_of(
+        numbers::of_bytes(file[at + 3], file[at + 4]),
+        numbers::of_bytes(file[at + 5], file[at + 6]),
+        numbers::of_bytes(file[at + 7], file[at + 8]),
+        file[at + 9],
+    )
+}
+
+// The plunge of the field at a place.
+pub fn plunge_at(size: Size, file: &[u8], at: usize) -> MaybePlunge
+    requires { ⌜ at + plungeBytes size ≤ length (now file) ⌝ }
+    ensures { λ r. ⌜ r ≡ plungeIf size (now (file .entry)) at ⌝ }
+{
+    match size {
+        Size::Small => small_plunge(file, at),
+        Size::Large => large_plunge(file, at),
     }
 }
 
@@ -101,8 +144,8 @@ pub fn nth_plunge(file: &[u8], job: Job, i: usize) -> Plunge
     requires { ⌜ JobOf (now file) job × (i < total (now file)) ⌝ }
     ensures { λ r. ⌜ r ≡ nthPlunge (now (file .entry)) i ⌝ }
 {
-    let at = fields::place(job.head, i);
-    let found = plunge_at(file, at);
+    let head = job.head;
+    let found = plunge_at(head.size(), file, fields::place(head, i));
     match found {
         MaybePlunge::OfPlunge(q) => q,
         MaybePlunge::NoPlunge => Plunge {
@@ -116,14 +159,14 @@ pub fn nth_plunge(file: &[u8], job: Job, i: usize) -> Plunge
 
 // Refusals 8 and 9 in their order; a reach above the largest leaves every plate.
 fn check_plunge(file: &[u8], head: Head, at: usize) -> Verdict
-    requires { ⌜ (at + plungeBytes ≤ length (now file)) × (head .width ≤ largestSide) ⌝ }
+    requires { ⌜ (at + plungeBytes (sizeOf head) ≤ length (now file)) × (head .width ≤ largestSide) ⌝ }
     ensures { λ r. ⌜ r ≡ firstMet (plungeTrials head (now (file .entry)) at) ⌝ }
 {
-    let maybe = plunge_at(file, at);
+    let maybe = plunge_at(head.size(), file, at);
     match maybe {
         MaybePlunge::OfPlunge(q) => {
             if q.fits_plate(head) {
-                if file[at + 6] == 0 {
+                if q.depth == 0 {
                     return refusal::refuse(9, at);
                 }
                 return Verdict::Accepted;
@@ -148,10 +191,10 @@ fn after(right: Step, verdict: Verdict) -> Step
 
 // What the content of the field at a place tells, with n plunges before it.
 fn content_at(file: &[u8], head: Head, at: usize, n: usize) -> Step
-    requires { ⌜ (at + plungeBytes ≤ length (now file)) × (head .width ≤ largestSide) ⌝ }
+    requires { ⌜ Contained head (now file) at × (head .width ≤ largestSide) ⌝ }
     ensures { λ r. ⌜ r ≡ contentStep head (now (file .entry)) at n ⌝ }
 {
-    if reading_fields::opens(file, at, fields::END_TAG, fields::END_SIZE as usize) {
+    if reading_fields::opens(file, at, reading_fields::end_opening()) {
         return after(Step::Ended, reading_fields::check_end(file, at, n));
     }
     after(Step::Onward, check_plunge(file, head, at))
@@ -163,13 +206,9 @@ fn field_at(file: &[u8], head: Head, n: usize) -> Step
     ensures { λ r. ⌜ r ≡ stepAt head (now (file .entry)) n ⌝ }
 {
     let at = fields::place(head, n);
-    let opening = reading_fields::check_open(
-        file,
-        at,
-        fields::END_TAG,
-        fields::PLUNGE_TAG,
-        fields::PLUNGE_SIZE as usize,
-    );
+    let plunge = reading_fields::plunge_opening(head.size());
+    let end = reading_fields::end_opening();
+    let opening = reading_fields::check_open(file, at, plunge, end);
     match opening {
         Verdict::Accepted => content_at(file, head, at, n),
         Verdict::Refused(r) => Step::Fault(r),
@@ -178,7 +217,7 @@ fn field_at(file: &[u8], head: Head, n: usize) -> Step
 
 // What the fields after a right head come to.
 fn read_fields(file: &[u8], head: Head) -> ReadAnswer
-    requires { ⌜ (headBytes ≤ length (now file)) × (head ≡ headIn (now file)) × (head .width ≤ largestSide) ⌝ }
+    requires { ⌜ (place head 0 ≤ length (now file)) × (head ≡ headIn (now file)) × (head .width ≤ largestSide) ⌝ }
     ensures { λ r. ⌜ r ≡ readAnswer (firstMet (fieldsFrom (suc (length (now (file .entry)))) head (now (file .entry)) 0)) (now (file .entry)) ⌝ }
 {
     let mut n: usize = 0;
@@ -204,10 +243,7 @@ pub fn read(file: &[u8]) -> ReadAnswer
 {
     let verdict = check_head(file);
     match verdict {
-        Verdict::Accepted => read_fields(
-            file,
-            refusal::head_of(file[3], side(file[4]), side(file[5])),
-        ),
+        Verdict::Accepted => read_fields(file, head_in(file)),
         Verdict::Refused(r) => ReadAnswer::Unreadable(r),
     }
 }

@@ -1,17 +1,20 @@
 -- Laws of a field's opening and of the end field: what the tests that were made come to.
-use mathlib.Core.Path.{_≡_, sym, ap, _∙_}
+use mathlib.Core.Path.{_≡_, refl, sym, ap, _∙_}
 use mathlib.Core.Bool.{Bool, true, false, cond, not}
-use mathlib.Core.List.{List}
+use mathlib.Core.List.{List, [], _∷_}
 use Prim.Native.Nat.{ℕ, _+_, _-_, _≤_, _<_}
 use native.Mathlib.Omega.{arith}
+use native.Mathlib.Decide.{decLe}
 use borrow.Author.Tests.{lt-ltb, le-ltb, eq-eqb, ne-eqb}
 use lib.Dec.{ltb}
 use lib.ListN.{length}
 use Rattle.refusal.specs.declared.Verdict.{Verdict}
 use Rattle.refusal.specs.declared.Verdict.the-variants.{Accepted, Refused}
-use Rattle.refusal.specs.Refusals.{firstMet}
-use Rattle.fields.specs.Fields.{plungeBytes}
+use Rattle.refusal.specs.Refusals.{trial, firstMet}
+use Rattle.fields.specs.Fields.{opening, endBytes}
+use Rattle.reading_fields.specs.declared.Opening.{Opening}
 use Rattle.reading_fields.specs.Openings.{numberAt, openTrials, endTrials}
+use Rattle.reading_fields.specs.Either.{begins, opensEither, sizeEither}
 
 abbrev pub refused : ℕ → ℕ → Verdict
 refused n at = Refused (record { number = n; place = at })
@@ -19,36 +22,55 @@ refused n at = Refused (record { number = n; place = at })
 -- ---- the opening of a field
 
 module _ (f : List ℕ) (at : ℕ) (allowed : Bool) (size : ℕ) (h : at ≤ length f) where
-  pub open-short : length f - at < 3 → refused 6 at ≡ firstMet (openTrials f at allowed size)
-  open-short l = let g : length f < at + 3 = omega arith in rw (lt-ltb _ _ g)
+  pub open-short : length f - at < opening → refused 6 at ≡ firstMet (openTrials f at allowed size)
+  open-short l = let g : length f < at + opening = omega arith in rw (lt-ltb _ _ g)
 
-  pub open-wrong : 3 ≤ length f - at → (b : Bool) → b ≡ allowed → b ≡ false → refused 7 at ≡ firstMet (openTrials f at allowed size)
-  open-wrong l b e t = let g : at + 3 ≤ length f = omega arith in rw (le-ltb _ _ g, sym e ∙ t)
+  -- what is tried where three bytes are there and the opening is allowed: the content
+  pub open-content : opening ≤ length f - at → allowed ≡ true
+      → firstMet (trial (ltb (length f - at) (opening + size)) 6 at ∷ []) ≡ firstMet (openTrials f at allowed size)
+  open-content l e = let g : at + opening ≤ length f = omega arith in rw (le-ltb _ _ g, e) (ap (λ b. cond b (refused 6 at) Accepted) same)
+    where
+      same : ltb (length f - at) (opening + size) ≡ ltb (length f) (at + (opening + size))
+      same = go (decLe (opening + size) (length f - at))
+        where
+          go : Dec (opening + size ≤ length f - at) → ltb (length f - at) (opening + size) ≡ ltb (length f) (at + (opening + size))
+          go (yes k) = let m : at + (opening + size) ≤ length f = omega arith in le-ltb _ _ k ∙ sym (le-ltb _ _ m)
+          go (no k) =
+              let n : length f - at < opening + size = omega arith in
+              let m : length f < at + (opening + size) = omega arith in
+              lt-ltb _ _ n ∙ sym (lt-ltb _ _ m)
 
-  pub open-cut : 3 ≤ length f - at → (b : Bool) → b ≡ allowed → b ≡ true → length f - at - 3 < size → refused 6 at ≡ firstMet (openTrials f at allowed size)
-  open-cut l b e t k =
-      let g : at + 3 ≤ length f = omega arith in
-      let m : length f < at + (3 + size) = omega arith in
-      rw (le-ltb _ _ g, sym e ∙ t, lt-ltb _ _ m)
+  pub open-wrong : opening ≤ length f - at → allowed ≡ false → refused 7 at ≡ firstMet (openTrials f at allowed size)
+  open-wrong l e = let g : at + opening ≤ length f = omega arith in rw (le-ltb _ _ g, e)
 
-  pub open-whole : 3 ≤ length f - at → (b : Bool) → b ≡ allowed → b ≡ true → size ≤ length f - at - 3 → Accepted ≡ firstMet (openTrials f at allowed size)
-  open-whole l b e t k =
-      let g : at + 3 ≤ length f = omega arith in
-      let m : at + (3 + size) ≤ length f = omega arith in
-      rw (le-ltb _ _ g, sym e ∙ t, le-ltb _ _ m)
+  pub open-whole : opening ≤ length f - at → allowed ≡ true → opening + size ≤ length f - at → Accepted ≡ firstMet (openTrials f at allowed size)
+  open-whole l e k = ap (λ b. cond b (refused 6 at) Accepted) (sym (le-ltb _ _ k)) ∙ open-content l e
+
+-- by which of two it begins
+module _ (f : List ℕ) (at : ℕ) (a b : Opening) (h : at ≤ length f) (l : opening ≤ length f - at) where
+  pub first-opens : begins a f at ≡ true → firstMet (trial (ltb (length f - at) (opening + a .size)) 6 at ∷ [])
+      ≡ firstMet (openTrials f at (opensEither a b f at) (sizeEither a b f at))
+  first-opens e = rw e (open-content f at true (a .size) h l refl)
+
+  pub second-opens : begins a f at ≡ false → begins b f at ≡ true → firstMet (trial (ltb (length f - at) (opening + b .size)) 6 at ∷ [])
+      ≡ firstMet (openTrials f at (opensEither a b f at) (sizeEither a b f at))
+  second-opens e g = rw (e, g) (open-content f at true (b .size) h l refl)
+
+  pub none-opens : begins a f at ≡ false → begins b f at ≡ false → refused 7 at ≡ firstMet (openTrials f at (opensEither a b f at) (sizeEither a b f at))
+  none-opens e g = rw (e, g) (open-wrong f at false (b .size) h l refl)
 
 -- ---- the end field
 
 module _ (f : List ℕ) (at n : ℕ) where
   pub end-10 : (numberAt f at ≡ n → ⊥) → refused 10 at ≡ firstMet (endTrials f at n)
-  end-10 e = ap (λ b. cond (not b) (refused 10 at) (cond (ltb (at + plungeBytes) (length f)) (refused 11 (at + plungeBytes)) Accepted)) (sym (ne-eqb _ _ e))
+  end-10 e = ap (λ b. cond (not b) (refused 10 at) (cond (ltb (at + endBytes) (length f)) (refused 11 (at + endBytes)) Accepted)) (sym (ne-eqb _ _ e))
 
-  pub end-11 : numberAt f at ≡ n → at + plungeBytes < length f → refused 11 (at + plungeBytes) ≡ firstMet (endTrials f at n)
+  pub end-11 : numberAt f at ≡ n → at + endBytes < length f → refused 11 (at + endBytes) ≡ firstMet (endTrials f at n)
   end-11 e l =
-      ap (λ b. cond b (refused 11 (at + plungeBytes)) Accepted) (sym (lt-ltb _ _ l))
-      ∙ ap (λ b. cond (not b) (refused 10 at) (cond (ltb (at + plungeBytes) (length f)) (refused 11 (at + plungeBytes)) Accepted)) (sym (eq-eqb _ _ e))
+      ap (λ b. cond b (refused 11 (at + endBytes)) Accepted) (sym (lt-ltb _ _ l))
+      ∙ ap (λ b. cond (not b) (refused 10 at) (cond (ltb (at + endBytes) (length f)) (refused 11 (at + endBytes)) Accepted)) (sym (eq-eqb _ _ e))
 
-  pub end-right : numberAt f at ≡ n → length f ≤ at + plungeBytes → Accepted ≡ firstMet (endTrials f at n)
+  pub end-right : numberAt f at ≡ n → length f ≤ at + endBytes → Accepted ≡ firstMet (endTrials f at n)
   end-right e l =
-      ap (λ b. cond b (refused 11 (at + plungeBytes)) Accepted) (sym (le-ltb _ _ l))
-      ∙ ap (λ b. cond (not b) (refused 10 at) (cond (ltb (at + plungeBytes) (length f)) (refused 11 (at + plungeBytes)) Accepted)) (sym (eq-eqb _ _ e))
+      ap (λ b. cond b (refused 11 (at + endBytes)) Accepted) (sym (le-ltb _ _ l))
+      ∙ ap (λ b. cond (not b) (refused 10 at) (cond (ltb (at + endBytes) (length f)) (refused 11 (at + endBytes)) Accepted)) (sym (eq-eqb _ _ e))

@@ -8,9 +8,13 @@ use lib.ListN.{length, getD}
 use Rattle.refusal.specs.Refusals.{Trial, trial}
 use Rattle.fields.specs.Fields.{opening, endBytes}
 
+-- a number of the bytes at two places, "high byte first"
+abbrev pub pairAt : List ℕ → ℕ → ℕ → ℕ
+pairAt f i j = 256 * getD f i 0 + getD f j 0
+
 -- "a one-byte tag, a two-byte length (high byte first)"
 abbrev pub lengthAt : List ℕ → ℕ → ℕ
-lengthAt f at = 256 * getD f (at + 1) 0 + getD f (at + 2) 0
+lengthAt f at = pairAt f (at + 1) (at + 2)
 
 -- a field with this tag and this length begins at a place
 abbrev pub opens : ℕ → ℕ → List ℕ → ℕ → Bool
@@ -18,7 +22,7 @@ opens tag size f at = cond (eqb (getD f at 0) tag) (eqb (lengthAt f at) size) fa
 
 -- the number in an end field
 abbrev pub numberAt : List ℕ → ℕ → ℕ
-numberAt f at = 65536 * (256 * getD f (at + 3) 0 + getD f (at + 4) 0) + (256 * getD f (at + 5) 0 + getD f (at + 6) 0)
+numberAt f at = 65536 * pairAt f (at + 3) (at + 4) + pairAt f (at + 5) (at + 6)
 
 -- "Per field: fewer than three bytes left is 6; tag or length not allowed here is 7; content cut is 6; then content"
 abbrev pub openTrials : List ℕ → ℕ → Bool → ℕ → List Trial

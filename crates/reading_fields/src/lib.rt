@@ -1,51 +1,90 @@
 // The opening of a field, and the end field: read, with their refusals.
+use geometry::Size;
 use refusal::Verdict;
 ghost use mathlib.Core.Path.{_≡_};
+ghost use mathlib.Core.List.{[], _∷_};
 ghost use Prim.Native.Nat.{_+_, _≤_};
+ghost use lib.Dec.{ltb};
 ghost use lib.ListN.{length};
-ghost use Rattle.refusal.specs.Refusals.{firstMet};
+ghost use Rattle.refusal.specs.Refusals.{trial, firstMet};
 ghost use Rattle.fields.specs.Fields.{opening, endBytes};
-ghost use Rattle.reading_fields.specs.Openings.{opens, numberAt, openTrials, endTrials};
-ghost use Rattle.reading_fields.specs.Either.{opensEither};
+ghost use Rattle.reading_fields.specs.Openings.{numberAt, openTrials, endTrials};
+ghost use Rattle.reading_fields.specs.Either.{headOpening, plungeOpening, endOpening, begins, opensEither, sizeEither};
 
 // ---- the opening of a field
 
-// Whether a field with this tag and this length begins at a place.
-pub fn opens(file: &[u8], at: usize, tag: u8, size: usize) -> bool
-    requires { ⌜ at + opening ≤ length (now file) ⌝ }
-    ensures { λ r. ⌜ r ≡ opens tag size (now (file .entry)) at ⌝ }
+// How a field begins: its tag, and the length of its content.
+pub struct Opening {
+    pub tag: u8,
+    pub size: u8,
+}
+
+// That of the head, of a plunge's field, and of the end.
+pub fn head_opening(size: Size) -> Opening
+    ensures { λ r. ⌜ r ≡ headOpening size ⌝ }
 {
-    if file[at] == tag {
-        return 256 * numbers::wide(file[at + 1]) + numbers::wide(file[at + 2]) == size;
+    Opening {
+        tag: fields::head_tag(size),
+        size: fields::head_size(size),
+    }
+}
+
+pub fn plunge_opening(size: Size) -> Opening
+    ensures { λ r. ⌜ r ≡ plungeOpening size ⌝ }
+{
+    Opening {
+        tag: fields::plunge_tag(size),
+        size: fields::plunge_size(size),
+    }
+}
+
+pub fn end_opening() -> Opening
+    ensures { λ r. ⌜ r ≡ endOpening ⌝ }
+{
+    Opening {
+        tag: fields::END_TAG,
+        size: fields::END_SIZE,
+    }
+}
+
+// Whether a field that begins so stands at a place.
+pub fn opens(file: &[u8], at: usize, field: Opening) -> bool
+    requires { ⌜ at + opening ≤ length (now file) ⌝ }
+    ensures { λ r. ⌜ r ≡ begins field (now (file .entry)) at ⌝ }
+{
+    if file[at] == field.tag {
+        return 256 * numbers::wide(file[at + 1]) + numbers::wide(file[at + 2])
+            == numbers::wide(field.size);
     }
     false
 }
 
-// Whether it begins with one of two tags.
-fn opens_either(file: &[u8], at: usize, tag: u8, other: u8, size: usize) -> bool
-    requires { ⌜ at + opening ≤ length (now file) ⌝ }
-    ensures { λ r. ⌜ r ≡ opensEither tag other size (now (file .entry)) at ⌝ }
+// Refusal 6 where the bytes left at a place do not hold a content.
+fn check_content(left: usize, size: u8, at: usize) -> Verdict
+    requires { ⌜ opening ≤ left ⌝ }
+    ensures { λ r. ⌜ r ≡ firstMet (trial (ltb left (opening + size)) 6 at ∷ []) ⌝ }
 {
-    if opens(file, at, tag, size) {
-        return true;
+    if left - fields::OPENING < (size as usize) {
+        return refusal::refuse(6, at);
     }
-    opens(file, at, other, size)
+    Verdict::Accepted
 }
 
-// Refusals 6, 7 and 6 in their order: three bytes, an allowed tag with its length, the whole content.
-pub fn check_open(file: &[u8], at: usize, tag: u8, other: u8, size: usize) -> Verdict
+// Refusals 6, 7 and 6 in their order: three bytes, a field that begins in one of two ways, the whole content.
+pub fn check_open(file: &[u8], at: usize, first: Opening, second: Opening) -> Verdict
     requires { ⌜ at ≤ length (now file) ⌝ }
-    ensures { λ r. ⌜ r ≡ firstMet (openTrials (now (file .entry)) at (opensEither tag other size (now (file .entry)) at) size) ⌝ }
+    ensures { λ r. ⌜ r ≡ firstMet (openTrials (now (file .entry)) at (opensEither first second (now (file .entry)) at)
+        (sizeEither first second (now (file .entry)) at)) ⌝ }
 {
     let left = file.len() - at;
     if left < fields::OPENING {
         return refusal::refuse(6, at);
     }
-    if opens_either(file, at, tag, other, size) {
-        if left - fields::OPENING < size {
-            return refusal::refuse(6, at);
-        }
-        return Verdict::Accepted;
+    if opens(file, at, first) {
+        return check_content(left, first.size, at);
+    }
+    if opens(file, at, second) {
+        return check_content(left, second.size, at);
     }
     refusal::refuse(7, at)
 }

@@ -4,13 +4,14 @@ use mathlib.Core.List.{List, [], _++_}
 use Prim.Native.Nat.{ℕ, _-_, _/_}
 use lib.Dec.{eqb}
 use lib.ListN.{length, getD}
+use Rattle.geometry.specs.declared.Size.the-variants.{Small}
 use Rattle.fields.specs.Fields.{headBytes, plungeBytes}
 use Rattle.reading_fields.specs.Openings.{lengthAt, numberAt}
 use Rattle.phrases.specs.Phrases.{ascii, phrase}
 
--- the number of the plunge whose field holds a byte
+-- the number of the plunge whose field holds a byte, in a file of a small plate
 abbrev pub plungeNumber : ℕ → ℕ
-plungeNumber place = (place - headBytes) / plungeBytes
+plungeNumber place = (place - headBytes Small) / plungeBytes Small
 
 abbrev pub endsReason : List ℕ → ℕ → List ℕ
 endsReason f place =

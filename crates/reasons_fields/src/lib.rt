@@ -1,4 +1,5 @@
 // What is wrong with a field of a job file, or with its end, and where: a sentence for each fault, put into pages.
+use geometry::Size;
 ghost use mathlib.Core.Path.{_≡_};
 ghost use Prim.Native.Nat.{_≤_};
 ghost use lib.ListN.{length};
@@ -7,14 +8,15 @@ ghost use Rattle.reading_fields.specs.Openings.{lengthAt, numberAt};
 ghost use Rattle.phrases.specs.Phrases.{Appends};
 ghost use Rattle.reasons_fields.specs.Fields.{plungeNumber, endsReason, fieldReason, plungeReason, countReason, surplusReason, untidyReason};
 
-// The number of the plunge whose field holds a byte.
+// The number of the plunge whose field holds a byte, in a file of a small plate.
 fn plunge_number(place: usize) -> u64
     ensures { λ r. ⌜ r ≡ plungeNumber place ⌝ }
 {
-    if place < fields::HEAD_BYTES {
+    let start = fields::head_bytes(Size::Small);
+    if place < start {
         return 0;
     }
-    ((place - fields::HEAD_BYTES) / fields::PLUNGE_BYTES) as u64
+    ((place - start) / fields::plunge_bytes(Size::Small)) as u64
 }
 
 // Refusal 6: where the file ends.

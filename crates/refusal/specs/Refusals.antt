@@ -12,6 +12,7 @@ use Rattle.geometry.specs.declared.MaybeKind.the-variants.{OfKind, NoKind}
 use Rattle.geometry.specs.declared.Head.{Head}
 use Rattle.geometry.specs.Lists.{any}
 use Rattle.geometry.specs.Forms.{kindOf}
+use Rattle.geometry.specs.Sizes.{smallSide}
 use Rattle.refusal.specs.declared.Verdict.{Verdict}
 use Rattle.refusal.specs.declared.Verdict.the-variants.{Accepted, Refused}
 
@@ -31,7 +32,7 @@ firstMet (t ∷ more) = cond (t .met) (Refused (record { number = t .number; pla
 
 -- "each 1 to 240 cells"
 abbrev pub largestSide : ℕ
-largestSide = 240
+largestSide = smallSide
 
 abbrev pub isSide : ℕ → Bool
 isSide n = cond (leb 1 n) (leb n largestSide) false

@@ -19,7 +19,7 @@ pub enum Verdict {
 }
 
 // A plate's side is 1 to this.
-pub const LARGEST_SIDE: u16 = 240;
+pub const LARGEST_SIDE: u16 = geometry::SMALL_SIDE;
 
 // The number of an erosion (document 01's rung) or of a residue is 1 to this.
 pub const LARGEST_EROSION: u16 = 120;

@@ -11,6 +11,9 @@ use lib.ListN.{length, take, drop, getD, length-append}
 use lib.Seq.{take-at, length-take-le}
 use Rattle.io.specs.Counts.{Counts}
 use Rattle.geometry.specs.declared.Head.{Head}
+use Rattle.geometry.specs.declared.Size.{Size}
+use Rattle.geometry.specs.declared.Size.the-variants.{Small, Large}
+use Rattle.geometry.specs.Sizes.{sizeOf}
 use Rattle.geometry.specs.declared.Plunge.{Plunge}
 use Rattle.theory.proofs.Plunges.{fitsPlate-iff}
 use Rattle.theory.proofs.Listing.{listed-fits}
@@ -20,7 +23,7 @@ use Rattle.refusal.specs.declared.Verdict.the-variants.{Accepted, Refused}
 use Rattle.refusal.specs.Refusals.{trial, firstMet, mapTrials, short, badKind, badSides, headOf, largestErosion, written}
 use Rattle.refusal.specs.Sides.{Sides}
 use Rattle.refusal.proofs.Refusals.{Sound, sound, map-sound, gives-none}
-use Rattle.fields.specs.Fields.{encoded, fileLength}
+use Rattle.fields.specs.Fields.{encoded, fileLength, headBytes, plungeBytes, place}
 use Rattle.fields.proofs.Encoding.{encoded-length}
 use Rattle.numerals.specs.Numerals.{Puts}
 use Rattle.reading.specs.declared.Job.{Job}
@@ -130,6 +133,14 @@ module _ (s out a b : List ℕ) (o : fileBuffer ≡ length out) (i : mostCells �
 
 -- ---- the text of a file that was listed
 
+-- a head has six bytes at least, and a plunge seven
+place-least : (p : Head) (n : ℕ) → 6 + 7 * n ≤ place p n
+place-least p n = go (sizeOf p)
+  where
+    go : (s : Size) → 6 + 7 * n ≤ headBytes s + plungeBytes s * n
+    go Small = omega arith
+    go Large = omega arith
+
 module _ (s file : List ℕ) (n : ℕ) (f : ListedFile s file n) where
   scan-sound : Sound (byteIn s 1) (byteIn s 2) false (length (depths s)) × (listLength s ≤ fileBuffer)
   scan-sound =
@@ -165,7 +176,7 @@ module _ (s file : List ℕ) (n : ℕ) (f : ListedFile s file n) where
   text-put bytes old new r h p =
       subst (λ (xs : List ℕ). Puts old 0 xs new (r .used))
       (ap₂ listText (ap headIn (f .bytes) ∙ encoded-head (plateIn s) (plungesOf s)) (ap plungesIn (f .bytes) ∙ encoded-plunges (plateIn s) (plungesOf s)))
-      (page-whole file old new r (job-of (plateIn s) refl .readable) bytes (omega (arith, many, scan-sound .1, h)) p)
+      (page-whole file old new r (job-of (plateIn s) refl .readable) bytes (omega (arith, many, scan-sound .1, h, place-least (plateIn s) (length (plungesOf s)))) p)
     where
       many : lineCount file ≡ length (plungesOf s) + 2
       many = ap lineCount (f .bytes) ∙ ap (λ (i : ℕ). i + 2) (encoded-total (plateIn s) (plungesOf s))

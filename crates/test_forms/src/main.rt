@@ -19,7 +19,7 @@ fn plunge_of(n: u16) -> Plunge {
     Plunge {
         column: n % SIDE,
         row: n / SIDE % SIDE,
-        reach: Reach((n / CELLS % 3) as u8),
+        reach: Reach(n / CELLS % 3),
         depth: (n / BALLS % 2 + 1) as u8,
     }
 }

@@ -16,6 +16,8 @@ use Rattle.fields.specs.Fields.{place}
 use Rattle.fields.specs.Writing.{spliced}
 use Rattle.fields.proofs.Splice.{splice-nil}
 use Rattle.numerals.specs.Numerals.{Puts}
+use Rattle.geometry.specs.Sizes.{sizeOf}
+use Rattle.reading.proofs.Bytes.{head-numbers, plunge-numbers}
 use Rattle.reading.specs.Reading.{IsReadable, headIn, total, nthPlunge, plungesIn}
 use Rattle.reading.proofs.Readable.{length-plungesIn}
 use Rattle.text.specs.declared.Page.{Page}
@@ -45,10 +47,10 @@ module _ (f : List ℕ) (i : ℕ) where
   line-room ok bytes = go (eqb i 0) (leb i (total f))
     where
       go : (a b : Bool) → length (cond a (plateLine (headIn f)) (cond b (plungeLine (nthPlunge f (i - 1))) (totalLine (total f)))) ≤ lineRoom
-      go true b = plate-room (headIn f) (omega (arith, bytes 4)) (omega (arith, bytes 5))
+      go true b = let h = head-numbers f bytes in plate-room (headIn f) (h .0) (h .1)
       go false true =
-          plunge-room (nthPlunge f (i - 1)) (omega (arith, bytes (place (headIn f) (i - 1) + 3))) (omega (arith, bytes (place (headIn f) (i - 1) + 4)))
-          (omega (arith, bytes (place (headIn f) (i - 1) + 5))) (omega (arith, bytes (place (headIn f) (i - 1) + 6)))
+          let n = plunge-numbers (sizeOf (headIn f)) f (place (headIn f) (i - 1)) bytes in
+          plunge-room (nthPlunge f (i - 1)) (n .0) (n .1) (n .2) (omega (arith, n .3))
       go false false = total-room (total f)
 
 -- a line that was put, by what it is

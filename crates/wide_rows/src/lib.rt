@@ -32,25 +32,6 @@ fn less(a: u16, b: u16) -> u16
     if b < a { a - b } else { 0 }
 }
 
-// The number of two bytes.
-pub fn number_of(high: u8, low: u8) -> u16
-    ensures { λ r. ⌜ r ≡ 256 * high + low ⌝ }
-{
-    256 * (high as u16) + (low as u16)
-}
-
-pub fn high_byte(n: u16) -> u8
-    ensures { λ r. ⌜ r ≡ n / 256 ⌝ }
-{
-    (n / 256) as u8
-}
-
-pub fn low_byte(n: u16) -> u8
-    ensures { λ r. ⌜ r ≡ n % 256 ⌝ }
-{
-    (n % 256) as u8
-}
-
 // ---- the start
 
 // The number of a wall where a depth is below the level, else 0.
@@ -115,7 +96,7 @@ pub fn load_numbers(map: &[u8], from: usize, width: usize, row: &mut [u16; ROW_P
     let mut n = MARGIN;
     while n < MARGIN + width {
         let at = 2 * (from + (n - MARGIN));
-        row[n] = number_of(map[at], map[at + 1]);
+        row[n] = numbers::of_bytes(map[at], map[at + 1]);
         n += 1;
     }
 }
@@ -197,8 +178,8 @@ fn store_row(row: &[u16; ROW_PLACES], out: &mut [u8], from: usize, width: usize)
     let mut n = from;
     while n < from + width {
         let number = row[MARGIN + (n - from)];
-        out[2 * n] = high_byte(number);
-        out[2 * n + 1] = low_byte(number);
+        out[2 * n] = numbers::first_byte(number);
+        out[2 * n + 1] = numbers::second_byte(number);
         n += 1;
     }
 }

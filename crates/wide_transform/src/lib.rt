@@ -105,9 +105,9 @@ fn finish_run(out: &mut [u8], to: usize)
 {
     let mut n = 0;
     while n < to {
-        let distance = wide_rows::WIDE_WALL - wide_rows::number_of(out[2 * n], out[2 * n + 1]);
-        out[2 * n] = wide_rows::high_byte(distance);
-        out[2 * n + 1] = wide_rows::low_byte(distance);
+        let distance = wide_rows::WIDE_WALL - numbers::of_bytes(out[2 * n], out[2 * n + 1]);
+        out[2 * n] = numbers::first_byte(distance);
+        out[2 * n + 1] = numbers::second_byte(distance);
         n += 1;
     }
 }

@@ -15,7 +15,7 @@ use Rattle.jobs.specs.Calls.{Drawn}
 use Rattle.comparison.specs.Drawings.{platesCompared}
 use Rattle.comparison.proofs.Maps.{drawn-holds, holds-head, plates-same, second-refused, second-done}
 use Rattle.comparison.proofs.compare_plates.Reads as compare-plates-reads
-use Rattle.comparison.proofs.head_in.Reads as head-in-reads
+use Rattle.reading.proofs.head_in.Reads as head-in-reads
 use Rattle.jobs.proofs.draw.Reads as draw-reads
 
 draw-requires : tie.Need-draw-requires

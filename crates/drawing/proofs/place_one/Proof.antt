@@ -1,128 +1,124 @@
--- `place_one` raises the number at the centre of a plunge of the reach, and does nothing for another.
+use native.Mathlib.Nat.{mul-le-mul}
 use native.Mathlib.Omega.{arith}
-use mathlib.Core.Path.{_≡_}
-use Rattle.drawing.proofs.Files.{told, told-none, centre-told, raised-one-told, raised-skip-told}
-use Rattle.reading.specs.Reading.{nthPlunge}
+use Rattle.drawing.proofs.Files.{centre-told, raised-one-told, raised-skip-told}
 use borrow.Author.Needs.{needs}
 use Rattle.drawing.proofs.place_one.Statement.{statement}
 use Rattle.drawing.proofs.place_one.Tie as tie
+use Rattle.drawing.proofs.place_one.Reads as reads
+use Rattle.drawing.proofs.place_one.Lts as lts
+use Rattle.drawing.proofs.plunge_at.Reads as plunge-at-reads
+use Rattle.window.proofs.higher.Reads as higher-reads
 
--- the plunge that was read is the file's
-read : (c : tie.After-maybe) → let given = c .before .before .before .before .before .before .before .args in
-    c .maybe .given .0 .0 ≡ nthPlunge (given .file .now) (given .i)
-read c =
-    let at-plunge-at = c .before .before in
-    let at-place = at-plunge-at .before in
-    let s = at-place .before .before .before .before in
-    told (s .args .head) (s .args .count) _ (s .pre .0) (s .pre .1) (s .args .i) (s .pre .2) _ _
-    (rw (at-place .place .ensures) at (at-plunge-at .plunge-at .ensures)) (c .maybe .given .1)
-
+-- src/lib.rt:89:17
 cast-width : tie.Need-cast-width
 cast-width c = search needs
 
-place-requires : tie.Need-place-requires
-place-requires c κs = search needs
-
+-- src/lib.rt:90:9
 plunge-at-requires : tie.Need-plunge-at-requires
 plunge-at-requires c κs = search needs
 
-enum-known-maybe : tie.Need-enum-known-maybe
-enum-known-maybe c = search needs
-
+-- src/lib.rt:91:9
 cast-if1 : tie.Need-cast-if1
 cast-if1 c = search needs
 
+-- src/lib.rt:92:18
 cast-n : tie.Need-cast-n
 cast-n c = search needs
 
+-- src/lib.rt:92:17
 mul-n : tie.Need-mul-n
 mul-n c =
-    let at-maybe = c .before .before .before .before in
-    let s = at-maybe .before .before .before .before .before .before .before in
+    let at-plunge-at = c .before .before .before in
+    let at-start = at-plunge-at .before .before .before .before in
+    let given = at-start .args in
     omega (
       arith,
-      s .pre .3,
-      centre-told (s .args .head) (s .args .count) _ (s .pre .0) (s .pre .1) (s .args .i) (s .pre .2) _ (read at-maybe),
+      mul-le-mul (at-start .pre .0 .low) (at-start .pre .0 .narrow),
+      centre-told (given .head) (given .count) (given .file .now) (at-start .pre .0) (at-start .pre .1) (given .i)
+          (at-start .pre .2) _ (at-plunge-at .plunge-at .ensures),
     )
 
+-- src/lib.rt:92:45
 cast-n-2 : tie.Need-cast-n-2
 cast-n-2 c = search needs
 
+-- src/lib.rt:92:17
 add-n : tie.Need-add-n
 add-n c =
-    let at-maybe = c .before .before .before .before .before in
-    let s = at-maybe .before .before .before .before .before .before .before in
+    let at-plunge-at = c .before .before .before .before in
+    let at-start = at-plunge-at .before .before .before .before in
+    let given = at-start .args in
     omega (
       arith,
-      s .pre .3,
-      centre-told (s .args .head) (s .args .count) _ (s .pre .0) (s .pre .1) (s .args .i) (s .pre .2) _ (read at-maybe),
+      mul-le-mul (at-start .pre .0 .low) (at-start .pre .0 .narrow),
+      centre-told (given .head) (given .count) (given .file .now) (at-start .pre .0) (at-start .pre .1) (given .i)
+          (at-start .pre .2) _ (at-plunge-at .plunge-at .ensures),
     )
 
+-- src/lib.rt:93:19
 slice-read-old : tie.Need-slice-read-old
 slice-read-old c =
-    let at-maybe = c .before .before .before .before .before .before in
-    let s = at-maybe .before .before .before .before .before .before .before in
+    let at-plunge-at = c .before .before .before .before .before in
+    let at-start = at-plunge-at .before .before .before .before in
+    let given = at-start .args in
     omega (
       arith,
-      s .pre .3,
-      centre-told (s .args .head) (s .args .count) _ (s .pre .0) (s .pre .1) (s .args .i) (s .pre .2) _ (read at-maybe),
+      at-start .pre .3,
+      centre-told (given .head) (given .count) (given .file .now) (at-start .pre .0) (at-start .pre .1) (given .i)
+          (at-start .pre .2) _ (at-plunge-at .plunge-at .ensures),
     )
 
+-- src/lib.rt:94:18
 higher-requires : tie.Need-higher-requires
 higher-requires c κs = search needs
 
+-- src/lib.rt:94:9
 slice-write-map : tie.Need-slice-write-map
 slice-write-map c =
-    let at-maybe = c .before .before .before .before .before .before .before in
-    let s = at-maybe .before .before .before .before .before .before .before in
+    let at-plunge-at = c .before .before .before .before .before .before in
+    let at-start = at-plunge-at .before .before .before .before in
+    let given = at-start .args in
     omega (
       arith,
-      s .pre .3,
-      centre-told (s .args .head) (s .args .count) _ (s .pre .0) (s .pre .1) (s .args .i) (s .pre .2) _ (read at-maybe),
+      at-start .pre .3,
+      centre-told (given .head) (given .count) (given .file .now) (at-start .pre .0) (at-start .pre .1) (given .i)
+          (at-start .pre .2) _ (at-plunge-at .plunge-at .ensures),
     )
 
-enum-told : tie.Need-enum-told
-enum-told c = search needs
-
+-- src/lib.rt:85:1
 same-length : tie.Need-same-length
 same-length c = search needs
 
+-- src/lib.rt:85:1
 returns : tie.Need-returns
 returns c =
     let at-if1 = c .before .before .before .before in
-    let s = at-if1 .before .before .before .before .before .before .before .before .before .before in
-    raised-one-told (s .args .head) _ (s .args .reach) (s .args .i) _ _ _ (read (at-if1 .before .before .before))
-    (at-if1 .if1 .taken)
+    let at-plunge-at = at-if1 .before .before in
+    let at-start = at-plunge-at .before .before .before .before in
+    let given = at-start .args in
+    raised-one-told (given .head) (given .file .now) (given .reach) (given .i) _ _ (given .map .now)
+    (at-plunge-at .plunge-at .ensures) (at-if1 .if1 .taken)
     (omega (
       arith,
-      s .pre .3,
-      centre-told (s .args .head) (s .args .count) _ (s .pre .0) (s .pre .1) (s .args .i) (s .pre .2) _
-          (read (at-if1 .before .before .before)),
+      at-start .pre .3,
+      centre-told (given .head) (given .count) (given .file .now) (at-start .pre .0) (at-start .pre .1) (given .i)
+          (at-start .pre .2) _ (at-plunge-at .plunge-at .ensures),
     )) (c .higher .ensures)
 
+-- src/lib.rt:85:1
 returns-2 : tie.Need-returns-2
 returns-2 c =
-    let s = c .before .before .before .before .before .before .before .before .before .before in
-    raised-skip-told (s .args .head) _ (s .args .reach) (s .args .i) _ _ (read (c .before .before .before))
-    (c .if1 .left)
-
-returns-3 : tie.Need-returns-3
-returns-3 c =
-    let at-plunge-at = c .before .before in
-    let at-place = at-plunge-at .before in
-    let s = at-place .before .before .before .before in
-    absurd
-    (told-none (s .args .head) (s .args .count) _ (s .pre .0) (s .pre .1) (s .args .i) (s .pre .2) _
-    (rw (at-place .place .ensures) at (at-plunge-at .plunge-at .ensures)) (c .enum-told .given .1))
+    let at-start = c .before .before .before .before .before .before in
+    let given = at-start .args in
+    raised-skip-told (given .head) (given .file .now) (given .reach) (given .i) _ (given .map .now)
+    (c .before .before .plunge-at .ensures) (c .if1 .left)
 
 pub place-one-spec : {M : Type 1} → statement M
 place-one-spec =
     tie.close
     (tie.spec
     cast-width
-    place-requires
     plunge-at-requires
-    enum-known-maybe
     cast-if1
     cast-n
     mul-n
@@ -131,8 +127,6 @@ place-one-spec =
     slice-read-old
     higher-requires
     slice-write-map
-    enum-told
     same-length
     returns
-    returns-2
-    returns-3)
+    returns-2)

@@ -65,8 +65,8 @@ returns c =
     let at-low-byte = c .before .before .before in
     let at-start = at-low-byte .before .before in
     let a = at-start .args in
-    seven-end (a .out .now) (a .at) (at-start .pre) (a .number) (at-low-byte .low-byte .result)
-    (c .before .before .low-byte2 .result) (c .before .low-byte3 .result) (c .low-byte4 .result)
+    seven-end (a .out .now) (a .at) (a .number) (at-low-byte .low-byte .result)
+    (c .before .before .low-byte2 .result) (c .before .low-byte3 .result) (c .low-byte4 .result) (at-start .pre)
     (at-low-byte .low-byte .ensures) (c .before .before .low-byte2 .ensures) (c .before .low-byte3 .ensures)
     (c .low-byte4 .ensures)
 

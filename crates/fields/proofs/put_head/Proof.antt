@@ -1,60 +1,82 @@
--- `put_head` writes the head's field: six stores in a row.
-use native.Mathlib.Omega.{arith}
-use lib.ListN.{length-set}
-use Rattle.fields.proofs.Splice.{six-head}
+use mathlib.Core.Path.{sym, _∙_}
+use Rattle.fields.proofs.Sized.{head-room, head-put, small-head}
 use borrow.Author.Needs.{needs}
 use Rattle.fields.proofs.put_head.Statement.{statement}
 use Rattle.fields.proofs.put_head.Tie as tie
+use Rattle.fields.proofs.put_head.Reads as reads
+use Rattle.fields.proofs.put_head.Lts as lts
+use Rattle.fields.proofs.put_large_head.Reads as put-large-head-reads
+use Rattle.fields.proofs.put_small_head.Reads as put-small-head-reads
+use Rattle.geometry.proofs.Head.size.Reads as size-reads
 
-slice-write-out : tie.Need-slice-write-out
-slice-write-out c = search needs
+-- src/lib.rt:137:9
+size-requires : tie.Need-size-requires
+size-requires c κs = search needs
 
-slice-write-out-2 : tie.Need-slice-write-out-2
-slice-write-out-2 c = simp length-set (omega arith)
+-- src/lib.rt:139:39
+enum-told : tie.Need-enum-told
+enum-told c = search needs
 
-slice-write-out-3 : tie.Need-slice-write-out-3
-slice-write-out-3 c = simp length-set (omega arith)
+-- src/lib.rt:139:24
+put-small-head-requires : tie.Need-put-small-head-requires
+put-small-head-requires c κs =
+    let at-size = c .before .before .before in
+    let at-start = at-size .before .before in
+    let given = at-start .args in (
+      head-room (given .head) _ (sym (at-size .size .ensures) ∙ c .before .enum-told .given .1) (given .out .now)
+          (given .out .now) (at-start .pre),
+      small-head (given .head) (sym (at-size .size .ensures) ∙ c .before .enum-told .given .1),
+    )
 
-byte-requires : tie.Need-byte-requires
-byte-requires c κs = search needs
+-- src/lib.rt:140:39
+enum-told-2 : tie.Need-enum-told-2
+enum-told-2 c = search needs
 
-slice-write-out-4 : tie.Need-slice-write-out-4
-slice-write-out-4 c = simp length-set (omega arith)
+-- src/lib.rt:140:24
+put-large-head-requires : tie.Need-put-large-head-requires
+put-large-head-requires c κs =
+    let at-size = c .before .before .before in
+    let at-start = at-size .before .before in
+    let given = at-start .args in
+    head-room (given .head) _ (sym (at-size .size .ensures) ∙ c .before .enum-told2 .given .1) (given .out .now)
+    (given .out .now) (at-start .pre)
 
-cast-out : tie.Need-cast-out
-cast-out c = search needs
-
-slice-write-out-5 : tie.Need-slice-write-out-5
-slice-write-out-5 c = simp length-set (omega arith)
-
-cast-out-2 : tie.Need-cast-out-2
-cast-out-2 c = search needs
-
-slice-write-out-6 : tie.Need-slice-write-out-6
-slice-write-out-6 c = search needs
-
+-- src/lib.rt:133:1
 same-length : tie.Need-same-length
 same-length c = search needs
 
+-- src/lib.rt:133:1
 returns : tie.Need-returns
 returns c =
-    let at-start = c .before .before .before .before in
-    let a = at-start .args in
-    six-head (a .out .now) (a .head) (c .before .before .byte .result) (at-start .pre .0)
-    (c .before .before .byte .ensures)
+    let at-enum-told = c .before .before .before .before in
+    let at-size = at-enum-told .before .before in
+    let at-start = at-size .before .before in
+    head-put (at-start .args .head) _ (sym (at-size .size .ensures) ∙ at-enum-told .enum-told .given .1) _ _
+    (c .before .before .put-small-head .ensures)
+
+-- src/lib.rt:133:1
+same-length-2 : tie.Need-same-length-2
+same-length-2 c = search needs
+
+-- src/lib.rt:133:1
+returns-2 : tie.Need-returns-2
+returns-2 c =
+    let at-enum-told2 = c .before .before .before .before in
+    let at-size = at-enum-told2 .before .before in
+    let at-start = at-size .before .before in
+    head-put (at-start .args .head) _ (sym (at-size .size .ensures) ∙ at-enum-told2 .enum-told2 .given .1) _ _
+    (c .before .before .put-large-head .ensures)
 
 pub put-head-spec : {M : Type 1} → statement M
 put-head-spec =
     tie.close
     (tie.spec
-    slice-write-out
-    slice-write-out-2
-    slice-write-out-3
-    byte-requires
-    slice-write-out-4
-    cast-out
-    slice-write-out-5
-    cast-out-2
-    slice-write-out-6
+    size-requires
+    enum-told
+    put-small-head-requires
+    enum-told-2
+    put-large-head-requires
     same-length
-    returns)
+    returns
+    same-length-2
+    returns-2)

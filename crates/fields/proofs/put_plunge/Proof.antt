@@ -1,82 +1,71 @@
--- `put_plunge` writes the plunge's field: seven stores in a row.
-use native.Mathlib.Omega.{arith}
-use lib.ListN.{length-set}
-use Rattle.fields.proofs.Splice.{seven}
+use Rattle.fields.proofs.Sized.{plunge-room, plunge-put}
 use borrow.Author.Needs.{needs}
 use Rattle.fields.proofs.put_plunge.Statement.{statement}
 use Rattle.fields.proofs.put_plunge.Tie as tie
+use Rattle.fields.proofs.put_plunge.Reads as reads
+use Rattle.fields.proofs.put_plunge.Lts as lts
+use Rattle.fields.proofs.put_large_plunge.Reads as put-large-plunge-reads
+use Rattle.fields.proofs.put_small_plunge.Reads as put-small-plunge-reads
 
-slice-write-out : tie.Need-slice-write-out
-slice-write-out c = search needs
+-- src/lib.rt:182:41
+enum-told : tie.Need-enum-told
+enum-told c = search needs
 
-add-out : tie.Need-add-out
-add-out c = search needs
+-- src/lib.rt:182:24
+put-small-plunge-requires : tie.Need-put-small-plunge-requires
+put-small-plunge-requires c κs =
+    let at-start = c .before .before .before .before in
+    let given = at-start .args in
+    plunge-room (given .q) _ _ (c .before .enum-told .given .1) (given .at) (given .out .now) (given .out .now)
+    (at-start .pre .0) (at-start .pre .1)
 
-slice-write-out-2 : tie.Need-slice-write-out-2
-slice-write-out-2 c = simp length-set (omega arith)
+-- src/lib.rt:183:41
+enum-told-2 : tie.Need-enum-told-2
+enum-told-2 c = search needs
 
-add-out-2 : tie.Need-add-out-2
-add-out-2 c = search needs
+-- src/lib.rt:183:24
+put-large-plunge-requires : tie.Need-put-large-plunge-requires
+put-large-plunge-requires c κs =
+    let at-start = c .before .before .before .before in
+    let given = at-start .args in
+    plunge-room (given .q) _ _ (c .before .enum-told2 .given .1) (given .at) (given .out .now) (given .out .now)
+    (at-start .pre .0) (at-start .pre .1) .0
 
-slice-write-out-3 : tie.Need-slice-write-out-3
-slice-write-out-3 c = simp length-set (omega arith)
-
-cast-out : tie.Need-cast-out
-cast-out c = search needs
-
-add-out-3 : tie.Need-add-out-3
-add-out-3 c = search needs
-
-slice-write-out-4 : tie.Need-slice-write-out-4
-slice-write-out-4 c = simp length-set (omega arith)
-
-cast-out-2 : tie.Need-cast-out-2
-cast-out-2 c = search needs
-
-add-out-4 : tie.Need-add-out-4
-add-out-4 c = search needs
-
-slice-write-out-5 : tie.Need-slice-write-out-5
-slice-write-out-5 c = simp length-set (omega arith)
-
-add-out-5 : tie.Need-add-out-5
-add-out-5 c = search needs
-
-slice-write-out-6 : tie.Need-slice-write-out-6
-slice-write-out-6 c = simp length-set (omega arith)
-
-add-out-6 : tie.Need-add-out-6
-add-out-6 c = search needs
-
-slice-write-out-7 : tie.Need-slice-write-out-7
-slice-write-out-7 c = simp length-set (omega arith)
-
+-- src/lib.rt:177:1
 same-length : tie.Need-same-length
 same-length c = search needs
 
+-- src/lib.rt:177:1
 returns : tie.Need-returns
 returns c =
-    let a = c .before .before .args in
-    seven (a .out .now) (a .at) (c .before .before .pre .0) 2 0 4 (a .q .column) (a .q .row) (a .q .reach .0) (a .q .depth)
+    let at-enum-told = c .before .before .before .before in
+    let at-start = at-enum-told .before .before .before in
+    let given = at-start .args in
+    plunge-put (given .q) _ _ (at-enum-told .enum-told .given .1) (given .at) (given .out .now) _
+    (c .before .before .put-small-plunge .ensures)
+
+-- src/lib.rt:177:1
+same-length-2 : tie.Need-same-length-2
+same-length-2 c = search needs
+
+-- src/lib.rt:177:1
+returns-2 : tie.Need-returns-2
+returns-2 c =
+    let at-enum-told2 = c .before .before .before .before in
+    let at-start = at-enum-told2 .before .before .before in
+    let given = at-start .args in
+    plunge-put (given .q) _ _ (at-enum-told2 .enum-told2 .given .1) (given .at) (given .out .now) _
+    (c .before .before .put-large-plunge .ensures)
 
 pub put-plunge-spec : {M : Type 1} → statement M
 put-plunge-spec =
     tie.close
     (tie.spec
-    slice-write-out
-    add-out
-    slice-write-out-2
-    add-out-2
-    slice-write-out-3
-    cast-out
-    add-out-3
-    slice-write-out-4
-    cast-out-2
-    add-out-4
-    slice-write-out-5
-    add-out-5
-    slice-write-out-6
-    add-out-6
-    slice-write-out-7
+    enum-told
+    put-small-plunge-requires
+    enum-told-2
+    put-large-plunge-requires
     same-length
-    returns)
+    returns
+    same-length-2
+    returns-2)

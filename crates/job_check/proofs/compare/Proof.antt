@@ -1,5 +1,7 @@
+use Rattle.fields.specs.Fields.{place}
+use Rattle.reading.proofs.Readable.{readable-sound}
 -- `compare` goes over the list beside the file: like to the end of both, or 12 at the first byte unlike.
-use mathlib.Core.Path.{sym, _∙_}
+use mathlib.Core.Path.{sym, ap₂, _∙_}
 use Rattle.job_check.proofs.Checking.{compare-asks, compared-like, compared-unlike, not-both}
 use mathlib.Core.List.{[], _∷_}
 use native.Mathlib.Omega.{arith}
@@ -17,7 +19,14 @@ send-listing-requires c κs =
     compare-asks _ _ _ _ _ _ (at-start .pre) (0 ∷ [])
 
 place-requires : tie.Need-place-requires
-place-requires c κs = omega arith
+place-requires c κs =
+    let at-start =
+    c .before .before .before .before .before .before .before .before .before .before .before .before .before .before in
+    omega (
+      arith,
+      ap₂ place (at-start .pre .head) (at-start .pre .count),
+      readable-sound (at-start .args .file .now) (at-start .pre .readable) .room,
+    )
 
 same-length : tie.Need-same-length
 same-length c = search needs

@@ -1,40 +1,75 @@
-use Rattle.listing_plunges.proofs.Marks.{field-whole}
+use Rattle.fields.proofs.Encoding.{field-length, field-few}
 use Rattle.geometry.specs.Lists.{common}
-use lib.ListN.{drop, replicate}
-use Rattle.fields.specs.Fields.{plungeBytes}
-use mathlib.Core.Path.{refl, ap, _∙_}
+use lib.ListN.{length, drop, replicate}
+use mathlib.Core.Path.{ap, _∙_}
+use Rattle.listing_plunges.proofs.Marks.{field-first}
+use native.Mathlib.Omega.{arith}
 use borrow.Author.Needs.{needs}
 use Rattle.listing_plunges.proofs.compare_plunge.Statement.{statement}
 use Rattle.listing_plunges.proofs.compare_plunge.Tie as tie
 use Rattle.listing_plunges.proofs.compare_plunge.Reads as reads
 use Rattle.listing_plunges.proofs.compare_plunge.Lts as lts
+use Rattle.fields.proofs.plunge_bytes.Reads as plunge-bytes-reads
 use Rattle.fields.proofs.put_plunge.Reads as put-plunge-reads
 use Rattle.listing_pass.proofs.common_run.Reads as common-run-reads
 
--- src/lib.rt:96:24
+-- src/lib.rt:106:30
 slice-aggregate-put-plunge : tie.Need-slice-aggregate-put-plunge
 slice-aggregate-put-plunge c = search needs
 
--- src/lib.rt:96:5
+-- src/lib.rt:106:5
 put-plunge-requires : tie.Need-put-plunge-requires
-put-plunge-requires c κs = search needs
+put-plunge-requires c κs = (omega (arith, field-few (c .before .before .args .size)), c .before .before .pre .1)
 
--- src/lib.rt:97:40
+-- src/lib.rt:107:49
+plunge-bytes-requires : tie.Need-plunge-bytes-requires
+plunge-bytes-requires c κs = search needs
+
+-- src/lib.rt:107:40
+array-share-prefix-field : tie.Need-array-share-prefix-field
+array-share-prefix-field c =
+    let at-start = c .before .before .before .before .before in
+    omega (arith, c .plunge-bytes .ensures, field-few (at-start .args .size))
+
+-- src/lib.rt:107:40
 slice-aggregate-common-run : tie.Need-slice-aggregate-common-run
-slice-aggregate-common-run c = search needs
-
--- src/lib.rt:97:5
-common-run-requires : tie.Need-common-run-requires
-common-run-requires c κs = search needs
-
--- src/lib.rt:91:1
-returns : tie.Need-returns
-returns c =
+slice-aggregate-common-run c =
     let at-put-plunge = c .before .before .before in
     let at-start = at-put-plunge .before .before .before in
     let given = at-start .args in
+    omega (
+      arith,
+      ap length
+          (field-first (given .size) (given .q) (replicate 10 0) _ _ (c .before .plunge-bytes .ensures)
+          (at-put-plunge .put-plunge .ensures)),
+      field-length (given .size) (given .q),
+      field-few (given .size),
+    )
+
+-- src/lib.rt:107:5
+common-run-requires : tie.Need-common-run-requires
+common-run-requires c κs =
+    let at-put-plunge = c .before .before .before in
+    let at-start = at-put-plunge .before .before .before in
+    let given = at-start .args in
+    omega (
+      arith,
+      ap length
+          (field-first (given .size) (given .q) (replicate 10 0) _ _ (c .before .plunge-bytes .ensures)
+          (at-put-plunge .put-plunge .ensures)),
+      field-length (given .size) (given .q),
+      at-start .pre .0,
+    )
+
+-- src/lib.rt:101:1
+returns : tie.Need-returns
+returns c =
+    let at-put-plunge = c .before .before .before .before in
+    let at-start = at-put-plunge .before .before .before in
+    let given = at-start .args in
     c .common-run .ensures ∙ ap (common (drop (given .at) (given .file .now)))
-    (field-whole (given .q) (replicate plungeBytes 0) _ refl (at-put-plunge .put-plunge .ensures))
+    (field-first (given .size) (given .q) (replicate 10 0) _ _ (c .before .before .plunge-bytes .ensures)
+    (at-put-plunge .put-plunge .ensures))
 
 pub compare-plunge-spec : {M : Type 1} → statement M
 compare-plunge-spec =
@@ -42,6 +77,8 @@ compare-plunge-spec =
     (tie.spec
     slice-aggregate-put-plunge
     put-plunge-requires
+    plunge-bytes-requires
+    array-share-prefix-field
     slice-aggregate-common-run
     common-run-requires
     returns)

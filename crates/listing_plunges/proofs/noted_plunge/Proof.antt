@@ -1,3 +1,5 @@
+use Rattle.geometry.specs.declared.Plunge.{Plunge}
+use mathlib.Core.Path.{ap}
 use Rattle.listing_plunges.proofs.Marks.{found-few}
 use native.Mathlib.Omega.{arith}
 use borrow.Author.Needs.{needs}
@@ -7,19 +9,19 @@ use Rattle.listing_plunges.proofs.noted_plunge.Reads as reads
 use Rattle.listing_plunges.proofs.noted_plunge.Lts as lts
 use Rattle.listing_plunges.proofs.plunge_at.Reads as plunge-at-reads
 
--- src/lib.rt:52:13
+-- src/lib.rt:61:13
 mul-i : tie.Need-mul-i
 mul-i c = search needs
 
--- src/lib.rt:52:13
+-- src/lib.rt:61:13
 element-copy-out-i : tie.Need-element-copy-out-i
 element-copy-out-i c = search needs
 
--- src/lib.rt:52:13
+-- src/lib.rt:61:13
 cast-i : tie.Need-cast-i
 cast-i c = search needs
 
--- src/lib.rt:53:22
+-- src/lib.rt:62:22
 add-plunge-at : tie.Need-add-plunge-at
 add-plunge-at c =
     omega (
@@ -29,17 +31,25 @@ add-plunge-at c =
       found-few (c .before .before .args .found) (c .before .before .args .marks .now) (c .before .before .pre .marked),
     )
 
--- src/lib.rt:53:46
+-- src/lib.rt:62:46
 element-copy-out-plunge-at : tie.Need-element-copy-out-plunge-at
 element-copy-out-plunge-at c = search needs
 
--- src/lib.rt:53:5
+-- src/lib.rt:62:5
 plunge-at-requires : tie.Need-plunge-at-requires
 plunge-at-requires c κs = search needs
 
--- src/lib.rt:43:1
+-- src/lib.rt:52:1
 returns : tie.Need-returns
-returns c = search needs
+returns c =
+    let at-start = c .before .before .before .before in (
+      c .plunge-at .ensures .0,
+      record {
+        column = c .plunge-at .ensures .1;
+        row = c .plunge-at .ensures .2;
+        reach = omega (arith, ap (λ (q : Plunge). q .reach .0) (c .plunge-at .ensures .0), at-start .pre .marked .reach);
+      },
+    )
 
 pub noted-plunge-spec : {M : Type 1} → statement M
 noted-plunge-spec =

@@ -6,19 +6,31 @@ use Rattle.erosion_series.proofs.Pairs.{kept-more}
 use Rattle.residue_marks.specs.Marks.{markPlaces}
 use Rattle.climb.specs.Climbs.{leftOf}
 use Rattle.listing_plunges.proofs.Listings.{Listed, listed-start, listed-plate, listed-asks, listed-more, listed-stops, listed-kept, listed-end}
+use native.Mathlib.Omega.{arith}
+use borrow.Author.Needs.{needs}
+use Rattle.geometry.specs.Sizes.{sizeOf}
+use Rattle.fields.proofs.Encoding.{field-few, bytes-none}
 use Rattle.listing_plunges.proofs.send_listing.Statement.{statement}
 use Rattle.listing_plunges.proofs.send_listing.Tie as tie
 
 abbrev Inv-loop : tie.InvT-loop
-Inv-loop pass relief file out₀ a₀ b₀ marks₀ noted₀ place₀ climb₀ out a b marks noted place climb =
-    (length marks ≡ markPlaces) × (length noted ≡ markPlaces) × Listed pass file (climb₀ .plate) relief out₀ a₀ b₀ climb out a b place
+Inv-loop relief file out₀ a₀ b₀ marks₀ noted₀ sending place₀ climb₀ out a b marks noted place climb =
+    (length marks ≡ markPlaces) × (length noted ≡ markPlaces) × Listed (sending .pass) file (climb₀ .plate) relief out₀ a₀ b₀ climb out a b place
 
 abbrev μ-loop : tie.MeasureT-loop
-μ-loop pass relief file out₀ a₀ b₀ marks₀ noted₀ place₀ climb₀ out a b marks noted place climb = leftOf (climb₀ .plate) climb
+μ-loop relief file out₀ a₀ b₀ marks₀ noted₀ sending place₀ climb₀ out a b marks noted place climb = leftOf (climb₀ .plate) climb
+
+size-requires : tie.Need-size-requires Inv-loop μ-loop
+size-requires c κs = search needs
+
+place-requires : tie.Need-place-requires Inv-loop μ-loop
+place-requires c κs =
+    let at-start = c .before .before .before .before .before .before in
+    omega (arith, field-few (sizeOf (at-start .args .head)), bytes-none (sizeOf (at-start .args .head)))
 
 begin-requires : tie.Need-begin-requires Inv-loop μ-loop
 begin-requires c κs =
-    let at-start = c .before .before .before .before .before .before .before in (
+    let at-start = c .before .before .before .before .before .before .before .before .before in (
       at-start .pre .0 .sides,
       record
           { wide = at-start .pre .0 .sides .wide; read = at-start .pre .0 .relief; first = at-start .pre .0 .first; second = at-start .pre .0 .second },
@@ -26,11 +38,12 @@ begin-requires c κs =
 
 loop-holds : tie.Need-loop-holds Inv-loop μ-loop
 loop-holds c =
-    let at-begin = c .before .before .before .before in (
+    let at-begin = c .before .before .before .before in
+    let at-place = at-begin .before .before .before in (
       refl,
       refl,
       listed-plate _ _ _ _ _ _ _ _ _ _ _ _ _ (sym (at-begin .begin .ensures .climbs .plate))
-          (listed-start _ _ _ _ _ _ _ _ _ _ (at-begin .begin .ensures)),
+          (listed-start _ _ _ _ _ _ _ _ _ _ _ (at-begin .begin .ensures) (at-place .place .ensures)),
     )
 
 next-requires : tie.Need-next-requires Inv-loop μ-loop
@@ -48,10 +61,11 @@ send-run-requires c κs =
     let at-next = c .before .before .before .before .before .before .before in
     let at-loop = at-next .before .before .before .before .before in
     let at-begin = at-loop .before .before .before .before .before in
-    let at-start = at-begin .before .before .before .before .before .before .before .before in (
+    let at-size = at-begin .before .before .before .before in
+    let at-start = at-size .before .before .before .before .before .before in (
       listed-asks _ _ _ _ _ _ _ _ _ _ _ _ (at-start .pre .1)
           (listed-plate _ _ _ _ _ _ _ _ _ _ _ _ _ (at-begin .begin .ensures .climbs .plate) (at-loop .loop .inv .2)) _ _ _ _
-          (at-next .next .ensures),
+          (at-next .next .ensures) _ refl (at-size .size .ensures),
       at-loop .loop .inv .1,
     )
 
@@ -61,10 +75,11 @@ same-length c =
     let at-next = at-send-run .before .before .before .before .before .before .before .before in
     let at-loop = at-next .before .before .before .before .before in
     let at-begin = at-loop .before .before .before .before .before in
-    let at-start = at-begin .before .before .before .before .before .before .before .before in
+    let at-size = at-begin .before .before .before .before in
+    let at-start = at-size .before .before .before .before .before .before in
     listed-kept _ _ _ _ _ _ _ _ _ _ _ _ (at-start .pre .1)
     (listed-plate _ _ _ _ _ _ _ _ _ _ _ _ _ (at-begin .begin .ensures .climbs .plate) (at-loop .loop .inv .2)) _ _ _ _
-    (at-next .next .ensures) _ _ (at-send-run .send-run .ensures .0) .0
+    (at-next .next .ensures) _ _ _ (at-size .size .ensures) (at-send-run .send-run .ensures .0) .0
 
 same-length-2 : tie.Need-same-length-2 Inv-loop μ-loop
 same-length-2 c =
@@ -72,10 +87,11 @@ same-length-2 c =
     let at-next = at-send-run .before .before .before .before .before .before .before .before in
     let at-loop = at-next .before .before .before .before .before in
     let at-begin = at-loop .before .before .before .before .before in
-    let at-start = at-begin .before .before .before .before .before .before .before .before in
+    let at-size = at-begin .before .before .before .before in
+    let at-start = at-size .before .before .before .before .before .before in
     listed-kept _ _ _ _ _ _ _ _ _ _ _ _ (at-start .pre .1)
     (listed-plate _ _ _ _ _ _ _ _ _ _ _ _ _ (at-begin .begin .ensures .climbs .plate) (at-loop .loop .inv .2)) _ _ _ _
-    (at-next .next .ensures) _ _ (at-send-run .send-run .ensures .0) .1 .same ∙ at-begin .begin .ensures .first .same
+    (at-next .next .ensures) _ _ _ (at-size .size .ensures) (at-send-run .send-run .ensures .0) .1 .same ∙ at-begin .begin .ensures .first .same
 
 same-length-3 : tie.Need-same-length-3 Inv-loop μ-loop
 same-length-3 c =
@@ -83,10 +99,11 @@ same-length-3 c =
     let at-next = at-send-run .before .before .before .before .before .before .before .before in
     let at-loop = at-next .before .before .before .before .before in
     let at-begin = at-loop .before .before .before .before .before in
-    let at-start = at-begin .before .before .before .before .before .before .before .before in
+    let at-size = at-begin .before .before .before .before in
+    let at-start = at-size .before .before .before .before .before .before in
     listed-kept _ _ _ _ _ _ _ _ _ _ _ _ (at-start .pre .1)
     (listed-plate _ _ _ _ _ _ _ _ _ _ _ _ _ (at-begin .begin .ensures .climbs .plate) (at-loop .loop .inv .2)) _ _ _ _
-    (at-next .next .ensures) _ _ (at-send-run .send-run .ensures .0) .2 .same ∙ at-begin .begin .ensures .second .same
+    (at-next .next .ensures) _ _ _ (at-size .size .ensures) (at-send-run .send-run .ensures .0) .2 .same ∙ at-begin .begin .ensures .second .same
 
 returns : tie.Need-returns Inv-loop μ-loop
 returns c =
@@ -94,18 +111,19 @@ returns c =
     let at-next = at-send-run .before .before .before .before .before .before .before .before in
     let at-loop = at-next .before .before .before .before .before in
     let at-begin = at-loop .before .before .before .before .before in
-    let at-start = at-begin .before .before .before .before .before .before .before .before in (
+    let at-size = at-begin .before .before .before .before in
+    let at-start = at-size .before .before .before .before .before .before in (
       listed-stops _ _ _ _ _ _ _ _ _ _ _ _ (at-start .pre .1)
           (listed-plate _ _ _ _ _ _ _ _ _ _ _ _ _ (at-begin .begin .ensures .climbs .plate) (at-loop .loop .inv .2)) _ _ _ _
-          (at-next .next .ensures) _ _ (at-send-run .send-run .ensures .0) (not-true _ (c .if1 .taken)),
+          (at-next .next .ensures) _ _ _ (at-size .size .ensures) (at-send-run .send-run .ensures .0) (not-true _ (c .if1 .taken)),
       kept-more _ _ _ _ (at-begin .begin .ensures .first)
           (listed-kept _ _ _ _ _ _ _ _ _ _ _ _ (at-start .pre .1)
           (listed-plate _ _ _ _ _ _ _ _ _ _ _ _ _ (at-begin .begin .ensures .climbs .plate) (at-loop .loop .inv .2)) _ _ _ _
-          (at-next .next .ensures) _ _ (at-send-run .send-run .ensures .0) .1),
+          (at-next .next .ensures) _ _ _ (at-size .size .ensures) (at-send-run .send-run .ensures .0) .1),
       kept-more _ _ _ _ (at-begin .begin .ensures .second)
           (listed-kept _ _ _ _ _ _ _ _ _ _ _ _ (at-start .pre .1)
           (listed-plate _ _ _ _ _ _ _ _ _ _ _ _ _ (at-begin .begin .ensures .climbs .plate) (at-loop .loop .inv .2)) _ _ _ _
-          (at-next .next .ensures) _ _ (at-send-run .send-run .ensures .0) .2),
+          (at-next .next .ensures) _ _ _ (at-size .size .ensures) (at-send-run .send-run .ensures .0) .2),
     )
 
 loop-less : tie.Need-loop-less Inv-loop μ-loop
@@ -121,13 +139,14 @@ loop-again c =
     let at-next = at-send-run .before .before .before .before .before .before .before .before in
     let at-loop = at-next .before .before .before .before .before in
     let at-begin = at-loop .before .before .before .before .before in
-    let at-start = at-begin .before .before .before .before .before .before .before .before in (
+    let at-size = at-begin .before .before .before .before in
+    let at-start = at-size .before .before .before .before .before .before in (
       at-next .next .ensures .marked .size,
       at-send-run .send-run .ensures .1,
       listed-plate _ _ _ _ _ _ _ _ _ _ _ _ _ (sym (at-begin .begin .ensures .climbs .plate))
           (listed-more _ _ _ _ _ _ _ _ _ _ _ _ (at-start .pre .1)
           (listed-plate _ _ _ _ _ _ _ _ _ _ _ _ _ (at-begin .begin .ensures .climbs .plate) (at-loop .loop .inv .2)) _ _ _ _
-          (at-next .next .ensures) _ _ (at-send-run .send-run .ensures .0) (not-false _ (c .before .if1 .left))),
+          (at-next .next .ensures) _ _ _ (at-size .size .ensures) (at-send-run .send-run .ensures .0) (not-false _ (c .before .if1 .left))),
     )
 
 same-length-4 : tie.Need-same-length-4 Inv-loop μ-loop
@@ -146,7 +165,8 @@ same-length-6 c =
 returns-2 : tie.Need-returns-2 Inv-loop μ-loop
 returns-2 c =
     let at-begin = c .before .before .before .before .before .before in
-    let at-start = at-begin .before .before .before .before .before .before .before .before in (
+    let at-size = at-begin .before .before .before .before in
+    let at-start = at-size .before .before .before .before .before .before in (
       listed-end _ _ _ _ _ _ _ _ _ _ _ _ (at-start .pre .1)
           (listed-plate _ _ _ _ _ _ _ _ _ _ _ _ _ (at-begin .begin .ensures .climbs .plate) (c .before .loop .inv .2))
           (c .loop-test .left),
@@ -162,6 +182,8 @@ send-listing-spec =
     (tie.spec
     Inv-loop
     μ-loop
+    size-requires
+    place-requires
     begin-requires
     loop-holds
     next-requires

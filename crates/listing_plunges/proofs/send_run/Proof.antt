@@ -1,6 +1,5 @@
--- `send_run` by the kind of pass: `run-written`, `run-staged` and `sent-compared` say what each has sent.
-use Rattle.listing_pass.proofs.Passes.{sent-compared}
 use Rattle.climb.specs.Climbs.{foundPlunges}
+use Rattle.listing_pass.proofs.Passes.{sent-compared}
 use Rattle.listing_plunges.proofs.Marks.{none-sent, run-written, run-staged}
 use borrow.Author.Needs.{needs}
 use Rattle.listing_plunges.proofs.send_run.Statement.{statement}
@@ -11,59 +10,60 @@ use Rattle.listing_plunges.proofs.compare_marks.Reads as compare-marks-
 use Rattle.listing_plunges.proofs.put_marks.Reads as put-marks-reads
 use Rattle.listing_plunges.proofs.stage_marks.Reads as stage-marks-reads
 
--- src/lib.rt:160:9
+-- src/lib.rt:181:9
 returns : tie.Need-returns
 returns c =
     let at-start = c .before .before .before .before in
     let given = at-start .args in (
-      none-sent (given .pass) (given .file .now) (given .at) (foundPlunges (given .found) (given .marks .now))
-          (given .out .now) (given .out .now) (at-start .pre .0 .marked .none (c .if1 .taken)),
+      none-sent (given .sending .pass) (given .sending .size) (given .file .now) (given .at)
+          (foundPlunges (given .found) (given .marks .now)) (given .out .now) (given .out .now)
+          (at-start .pre .0 .marked .none (c .if1 .taken)),
       at-start .pre .1,
     )
 
--- src/lib.rt:164:41
+-- src/lib.rt:187:47
 enum-told : tie.Need-enum-told
 enum-told c = search needs
 
--- src/lib.rt:164:17
+-- src/lib.rt:187:17
 put-marks-requires : tie.Need-put-marks-requires
 put-marks-requires c κs =
     let at-start = c .before .before .before .before .before .before .before .before in
     (at-start .pre .0 .marked, at-start .pre .0 .room (c .before .before .enum-told .given .1), at-start .pre .1)
 
--- src/lib.rt:167:54
+-- src/lib.rt:190:60
 enum-told-2 : tie.Need-enum-told-2
 enum-told-2 c = search needs
 
--- src/lib.rt:167:26
+-- src/lib.rt:190:26
 compare-marks-requires : tie.Need-compare-marks-requires
 compare-marks-requires c κs = search needs
 
--- src/lib.rt:169:43
+-- src/lib.rt:192:49
 enum-told-3 : tie.Need-enum-told-3
 enum-told-3 c = search needs
 
--- src/lib.rt:169:17
+-- src/lib.rt:192:17
 stage-marks-requires : tie.Need-stage-marks-requires
 stage-marks-requires c κs = search needs
 
--- src/lib.rt:146:1
+-- src/lib.rt:166:1
 same-length : tie.Need-same-length
 same-length c = search needs
 
--- src/lib.rt:146:1
+-- src/lib.rt:166:1
 returns-2 : tie.Need-returns-2
 returns-2 c =
     let at-enum-told = c .before .before .before .before .before in
     let at-start = at-enum-told .before .before .before .before .before .before in
     let given = at-start .args in (
-      run-written _ _ (given .at) (foundPlunges (given .found) (given .marks .now)) _ _ _
-          (c .before .before .put-marks .ensures .0) (at-enum-told .enum-told .given .1)
+      run-written _ (given .sending .size) _ (given .at) (foundPlunges (given .found) (given .marks .now))
+          (given .out .now) _ _ (c .before .before .put-marks .ensures .0) (at-enum-told .enum-told .given .1)
           (c .before .before .put-marks .ensures .1),
       c .before .before .put-marks .ensures .2,
     )
 
--- src/lib.rt:146:1
+-- src/lib.rt:166:1
 returns-3 : tie.Need-returns-3
 returns-3 c =
     let at-start = c .before .before .before .before .before .before .before .before in (
@@ -72,18 +72,18 @@ returns-3 c =
       c .compare-marks .ensures .1,
     )
 
--- src/lib.rt:146:1
+-- src/lib.rt:166:1
 same-length-2 : tie.Need-same-length-2
 same-length-2 c = search needs
 
--- src/lib.rt:146:1
+-- src/lib.rt:166:1
 returns-4 : tie.Need-returns-4
 returns-4 c =
     let at-enum-told3 = c .before .before .before .before .before in
     let at-start = at-enum-told3 .before .before .before .before .before .before in
     let given = at-start .args in (
-      run-staged _ _ (given .at) (foundPlunges (given .found) (given .marks .now)) _ _ _
-          (c .before .before .stage-marks .ensures .0) (at-enum-told3 .enum-told3 .given .1)
+      run-staged _ (given .sending .size) _ (given .at) (foundPlunges (given .found) (given .marks .now))
+          (given .out .now) _ _ (c .before .before .stage-marks .ensures .0) (at-enum-told3 .enum-told3 .given .1)
           (c .before .before .stage-marks .ensures .1),
       c .before .before .stage-marks .ensures .2,
     )

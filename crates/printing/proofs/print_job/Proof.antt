@@ -10,6 +10,7 @@ use native.Mathlib.Omega.{arith}
 use lib.ListN.{length}
 use Rattle.text.specs.Pages.{lineAt, lineCount}
 use Rattle.text_lines.specs.Text.{lineRoom}
+use Rattle.reading.proofs.Answers.{total-few}
 use Rattle.text.proofs.Pages.{page-goes-on}
 use Rattle.io.proofs.large_buffer.Reads as large-buffer-reads
 use Rattle.io.proofs.write_all.Reads as write-all-reads
@@ -30,7 +31,7 @@ loop-holds c = (omega arith, c .«large-buffer» .ensures)
 add-loop : tie.Need-add-loop Inv-loop μ-loop
 add-loop c =
     let at-start = c .before .before .before in
-    omega (arith, at-start .pre .plunges)
+    omega (arith, at-start .pre .plunges, total-few (at-start .args .file .now) (at-start .pre .readable))
 
 slice-aggregate-put-page : tie.Need-slice-aggregate-put-page Inv-loop μ-loop
 slice-aggregate-put-page c = search needs

@@ -1,93 +1,127 @@
--- `check_plunge` gives the first of 8 and 9: by the plunge that the field holds, if its reach is one.
-use mathlib.Core.Path.{sym, _∙_}
+use Rattle.reading.specs.Steps.{plungeIf}
 use Rattle.reading.specs.Reading.{plungeAt}
-use Rattle.reading.proofs.Steps.{none-above, wide-ball, read-fits, plunge-8, plunge-9, plunge-right}
+use Rattle.fields.specs.Fields.{plungeBytes}
+use Rattle.geometry.specs.Sizes.{sizeOf}
+use Rattle.geometry.specs.declared.Size.{Size}
+use lib.ListN.{length}
+use Prim.Native.Nat.{_+_, _≤_}
+use mathlib.Core.Path.{sym, ap, _∙_, subst}
+use Rattle.reading.proofs.Steps.{read-here, read-fits, read-depth, plunge-8, plunge-9, plunge-right, none-above, wide-ball}
 use borrow.Author.Needs.{needs}
 use Rattle.reading.proofs.check_plunge.Statement.{statement}
 use Rattle.reading.proofs.check_plunge.Tie as tie
+use Rattle.reading.proofs.check_plunge.Reads as reads
+use Rattle.reading.proofs.check_plunge.Lts as lts
+use Rattle.geometry.proofs.Head.size.Reads as size-reads
+use Rattle.geometry.proofs.Plunge.fits_plate.Reads as fits-plate-reads
+use Rattle.reading.proofs.plunge_at.Reads as plunge-at-reads
+use Rattle.refusal.proofs.refuse.Reads as refuse-reads
 
+-- src/lib.rt:163:27
+size-requires : tie.Need-size-requires
+size-requires c κs = search needs
+
+-- src/lib.rt:163:9
 plunge-at-requires : tie.Need-plunge-at-requires
-plunge-at-requires c κs = search needs
+plunge-at-requires c κs =
+    subst (λ (s : Size). c .before .before .args .at + plungeBytes s ≤ length (c .before .before .args .file .now))
+    (sym (c .size .ensures)) (c .before .before .pre .0)
 
+-- src/lib.rt:165:31
 enum-known-maybe : tie.Need-enum-known-maybe
 enum-known-maybe c = search needs
 
+-- src/lib.rt:166:16
 fits-plate-requires : tie.Need-fits-plate-requires
 fits-plate-requires c κs = search needs
 
-add-if2 : tie.Need-add-if2
-add-if2 c = search needs
-
-shared-slice-read-if2 : tie.Need-shared-slice-read-if2
-shared-slice-read-if2 c = search needs
-
+-- src/lib.rt:168:21
 refuse-requires : tie.Need-refuse-requires
 refuse-requires c κs = search needs
 
+-- src/lib.rt:168:21
 returns : tie.Need-returns
 returns c =
     let at-if1 = c .before .before .before in
     let at-fits-plate = at-if1 .before in
     let at-maybe = at-fits-plate .before .before in
     let at-plunge-at = at-maybe .before .before in
-    let at-start = at-plunge-at .before .before in
-    let a = at-start .args in
-    let fits =
-    read-fits (a .head) (a .file .now) (a .at) _ _ _ _ (at-plunge-at .plunge-at .ensures) (at-maybe .maybe .given .1)
-    (at-fits-plate .fits-plate .ensures) (at-if1 .if1 .taken) in
-    c .refuse .ensures ∙ plunge-9 (a .head) (a .file .now) (a .at) fits (c .before .if2 .taken)
+    let at-size = at-plunge-at .before in
+    let at-start = at-size .before .before in
+    let given = at-start .args in
+    let is =
+    (read-here (given .head) (given .file .now) (given .at) _ _ _ (at-plunge-at .plunge-at .ensures)
+    (at-size .size .ensures) (at-maybe .maybe .given .1)) in
+    c .refuse .ensures ∙ plunge-9 (given .head) (given .file .now) (given .at)
+    (read-fits (given .head) (given .file .now) (given .at) _ _ _ is (at-fits-plate .fits-plate .ensures)
+    (at-if1 .if1 .taken)) (read-depth (given .head) (given .file .now) (given .at) _ is ∙ c .before .if2 .taken)
 
+-- src/lib.rt:170:17
 returns-2 : tie.Need-returns-2
 returns-2 c =
     let at-fits-plate = c .before .before .before in
     let at-maybe = at-fits-plate .before .before in
     let at-plunge-at = at-maybe .before .before in
-    let at-start = at-plunge-at .before .before in
-    let a = at-start .args in
-    let fits =
-    read-fits (a .head) (a .file .now) (a .at) _ _ _ _ (at-plunge-at .plunge-at .ensures) (at-maybe .maybe .given .1)
-    (at-fits-plate .fits-plate .ensures) (c .before .before .if1 .taken) in
-    plunge-right (a .head) (a .file .now) (a .at) fits (c .if2 .left)
+    let at-size = at-plunge-at .before in
+    let at-start = at-size .before .before in
+    let given = at-start .args in
+    let is =
+    (read-here (given .head) (given .file .now) (given .at) _ _ _ (at-plunge-at .plunge-at .ensures)
+    (at-size .size .ensures) (at-maybe .maybe .given .1)) in
+    plunge-right (given .head) (given .file .now) (given .at)
+    (read-fits (given .head) (given .file .now) (given .at) _ _ _ is (at-fits-plate .fits-plate .ensures)
+    (c .before .before .if1 .taken))
+    (λ e. c .if2 .left (sym (read-depth (given .head) (given .file .now) (given .at) _ is) ∙ e))
 
+-- src/lib.rt:172:13
 refuse-requires-2 : tie.Need-refuse-requires-2
 refuse-requires-2 c κs = search needs
 
+-- src/lib.rt:174:34
 enum-told : tie.Need-enum-told
 enum-told c = search needs
 
+-- src/lib.rt:174:34
 refuse-requires-3 : tie.Need-refuse-requires-3
 refuse-requires-3 c κs = search needs
 
+-- src/lib.rt:159:1
 returns-3 : tie.Need-returns-3
 returns-3 c =
     let at-maybe = c .before .before .before .before in
     let at-plunge-at = at-maybe .before .before in
-    let at-start = at-plunge-at .before .before in
-    let a = at-start .args in
-    let fits =
-    read-fits (a .head) (a .file .now) (a .at) _ _ _ _ (at-plunge-at .plunge-at .ensures) (at-maybe .maybe .given .1)
-    (c .before .before .fits-plate .ensures) (c .before .if1 .left) in
-    c .refuse2 .ensures ∙ plunge-8 (a .head) (a .file .now) (a .at) fits
+    let at-size = at-plunge-at .before in
+    let at-start = at-size .before .before in
+    let given = at-start .args in
+    let is =
+    (read-here (given .head) (given .file .now) (given .at) _ _ _ (at-plunge-at .plunge-at .ensures)
+    (at-size .size .ensures) (at-maybe .maybe .given .1)) in
+    c .refuse2 .ensures ∙ plunge-8 (given .head) (given .file .now) (given .at)
+    (read-fits (given .head) (given .file .now) (given .at) _ _ _ is (c .before .before .fits-plate .ensures)
+    (c .before .if1 .left))
 
+-- src/lib.rt:159:1
 returns-4 : tie.Need-returns-4
 returns-4 c =
     let at-plunge-at = c .before .before .before in
-    let at-start = at-plunge-at .before .before in
-    let a = at-start .args in
+    let at-size = at-plunge-at .before in
+    let at-start = at-size .before .before in
+    let given = at-start .args in
     let above =
-    none-above (a .file .now) (a .at) (sym (at-plunge-at .plunge-at .ensures) ∙ c .before .enum-told .given .1) in
-    c .refuse3 .ensures ∙ plunge-8 (a .head) (a .file .now) (a .at)
-    (wide-ball (a .head) (plungeAt (a .file .now) (a .at)) (at-start .pre .1) above)
+    none-above (sizeOf (given .head)) (given .file .now) (given .at)
+    (ap (λ (s : Size). plungeIf s (given .file .now) (given .at)) (sym (at-size .size .ensures)) ∙ sym
+    (at-plunge-at .plunge-at .ensures) ∙ c .before .enum-told .given .1) in
+    c .refuse3 .ensures ∙ plunge-8 (given .head) (given .file .now) (given .at)
+    (wide-ball (given .head) (plungeAt (sizeOf (given .head)) (given .file .now) (given .at)) (at-start .pre .1) above)
 
 pub check-plunge-spec : {M : Type 1} → statement M
 check-plunge-spec =
     tie.close
     (tie.spec
+    size-requires
     plunge-at-requires
     enum-known-maybe
     fits-plate-requires
-    add-if2
-    shared-slice-read-if2
     refuse-requires
     returns
     returns-2

@@ -1,59 +1,103 @@
--- `field_at` tells by the opening, then by the content.
-use mathlib.Core.Path.{_∙_}
-use native.Mathlib.Omega.{arith}
-use Rattle.reading.proofs.Steps.{field-room, field-content, field-fault}
+use Rattle.reading.specs.Steps.{contentStep, Contained}
+use Prim.Native.Nat.{ℕ}
+use mathlib.Core.Path.{sym, ap, _∙_, subst}
+use Rattle.reading.proofs.Steps.{field-opened, field-room, field-content, field-fault}
 use borrow.Author.Needs.{needs}
 use Rattle.reading.proofs.field_at.Statement.{statement}
 use Rattle.reading.proofs.field_at.Tie as tie
+use Rattle.reading.proofs.field_at.Reads as reads
+use Rattle.reading.proofs.field_at.Lts as lts
+use Rattle.fields.proofs.place.Reads as place-reads
+use Rattle.geometry.proofs.Head.size.Reads as size-reads
+use Rattle.reading.proofs.content_at.Reads as content-at-reads
+use Rattle.reading_fields.proofs.check_open.Reads as check-open-reads
+use Rattle.reading_fields.proofs.end_opening.Reads as end-opening-reads
+use Rattle.reading_fields.proofs.plunge_opening.Reads as plunge-opening-reads
 
+-- src/lib.rt:208:9
 place-requires : tie.Need-place-requires
-place-requires c κs = omega arith
+place-requires c κs = search needs
 
-cast-check-open : tie.Need-cast-check-open
-cast-check-open c = search needs
+-- src/lib.rt:209:49
+size-requires : tie.Need-size-requires
+size-requires c κs = search needs
 
+-- src/lib.rt:209:9
+plunge-opening-requires : tie.Need-plunge-opening-requires
+plunge-opening-requires c κs = search needs
+
+-- src/lib.rt:210:9
+end-opening-requires : tie.Need-end-opening-requires
+end-opening-requires c κs = search needs
+
+-- src/lib.rt:211:9
 check-open-requires : tie.Need-check-open-requires
-check-open-requires c κs = omega arith
+check-open-requires c κs = search needs
 
+-- src/lib.rt:213:30
 enum-told : tie.Need-enum-told
 enum-told c = search needs
 
+-- src/lib.rt:213:30
 content-at-requires : tie.Need-content-at-requires
 content-at-requires c κs =
-    let at-place = c .before .before .before in
+    let at-end-opening = c .before .before .before in
+    let at-plunge-opening = at-end-opening .before in
+    let at-size = at-plunge-opening .before in
+    let at-place = at-size .before in
     let at-start = at-place .before .before in
-    let a = at-start .args in
-    let opened = rw (at-place .place .ensures) at (c .before .before .check-open .ensures) in (
-      rw (at-place .place .ensures) (field-room (a .head) (a .file .now) (a .n) _ opened (c .enum-told .given .1)),
+    let given = at-start .args in (
+      subst (Contained (given .head) (given .file .now)) (sym (at-place .place .ensures))
+          (field-room (given .head) (given .file .now) (given .n) _
+          (field-opened (given .head) (given .file .now) (given .n) _ _ _ _ _ (at-place .place .ensures)
+          (at-plunge-opening .plunge-opening .ensures) (at-end-opening .end-opening .ensures) (at-size .size .ensures)
+          (c .before .before .check-open .ensures)) (c .enum-told .given .1)),
       at-start .pre .1,
     )
 
+-- src/lib.rt:214:26
 enum-known-opening : tie.Need-enum-known-opening
 enum-known-opening c = search needs
 
+-- src/lib.rt:204:1
 returns : tie.Need-returns
 returns c =
     let at-check-open = c .before .before .before in
-    let at-place = at-check-open .before in
-    let a = at-place .before .before .args in
-    let opened = rw (at-place .place .ensures) at (at-check-open .check-open .ensures) in
-    rw (at-place .place .ensures) at (c .content-at .ensures)
-    ∙ field-content (a .head) (a .file .now) (a .n) _ opened (c .before .enum-told .given .1)
+    let at-end-opening = at-check-open .before in
+    let at-plunge-opening = at-end-opening .before in
+    let at-size = at-plunge-opening .before in
+    let at-place = at-size .before in
+    let at-start = at-place .before .before in
+    let given = at-start .args in
+    c .content-at .ensures ∙ ap (λ (k : ℕ). contentStep (given .head) (given .file .now) k (given .n))
+    (at-place .place .ensures) ∙ field-content (given .head) (given .file .now) (given .n) _
+    (field-opened (given .head) (given .file .now) (given .n) _ _ _ _ _ (at-place .place .ensures)
+    (at-plunge-opening .plunge-opening .ensures) (at-end-opening .end-opening .ensures) (at-size .size .ensures)
+    (at-check-open .check-open .ensures)) (c .before .enum-told .given .1)
 
+-- src/lib.rt:204:1
 returns-2 : tie.Need-returns-2
 returns-2 c =
     let at-check-open = c .before .before .before in
-    let at-place = at-check-open .before in
-    let a = at-place .before .before .args in
-    let opened = rw (at-place .place .ensures) at (at-check-open .check-open .ensures) in
-    field-fault (a .head) (a .file .now) (a .n) _ opened _ (c .before .opening .given .1)
+    let at-end-opening = at-check-open .before in
+    let at-plunge-opening = at-end-opening .before in
+    let at-size = at-plunge-opening .before in
+    let at-place = at-size .before in
+    let at-start = at-place .before .before in
+    let given = at-start .args in
+    field-fault (given .head) (given .file .now) (given .n) _
+    (field-opened (given .head) (given .file .now) (given .n) _ _ _ _ _ (at-place .place .ensures)
+    (at-plunge-opening .plunge-opening .ensures) (at-end-opening .end-opening .ensures) (at-size .size .ensures)
+    (at-check-open .check-open .ensures)) _ (c .before .opening .given .1)
 
 pub field-at-spec : {M : Type 1} → statement M
 field-at-spec =
     tie.close
     (tie.spec
     place-requires
-    cast-check-open
+    size-requires
+    plunge-opening-requires
+    end-opening-requires
     check-open-requires
     enum-told
     content-at-requires

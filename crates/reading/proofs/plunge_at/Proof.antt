@@ -1,80 +1,54 @@
--- `plunge_at` gives the plunge of a field, by `Reach::read` of its reach.
-use mathlib.Core.Path.{sym, _∙_}
-use Rattle.reading.proofs.Steps.{plunge-read, plunge-none}
+use Rattle.reading.specs.Steps.{plungeIf}
+use Rattle.fields.specs.Fields.{plungeBytes}
+use Rattle.geometry.specs.declared.Size.{Size}
+use lib.ListN.{length}
+use Prim.Native.Nat.{_+_, _≤_}
+use mathlib.Core.Path.{sym, ap, _∙_, subst}
 use borrow.Author.Needs.{needs}
 use Rattle.reading.proofs.plunge_at.Statement.{statement}
 use Rattle.reading.proofs.plunge_at.Tie as tie
+use Rattle.reading.proofs.plunge_at.Reads as reads
+use Rattle.reading.proofs.plunge_at.Lts as lts
+use Rattle.reading.proofs.large_plunge.Reads as large-plunge-reads
+use Rattle.reading.proofs.small_plunge.Reads as small-plunge-reads
 
-add-read : tie.Need-add-read
-add-read c = search needs
-
-shared-slice-read-read : tie.Need-shared-slice-read-read
-shared-slice-read-read c = search needs
-
-read-requires : tie.Need-read-requires
-read-requires c κs = search needs
-
-enum-known-maybe : tie.Need-enum-known-maybe
-enum-known-maybe c = search needs
-
-add-side : tie.Need-add-side
-add-side c = search needs
-
-shared-slice-read-side : tie.Need-shared-slice-read-side
-shared-slice-read-side c = search needs
-
-side-requires : tie.Need-side-requires
-side-requires c κs = search needs
-
-add-side-2 : tie.Need-add-side-2
-add-side-2 c = search needs
-
-shared-slice-read-side-2 : tie.Need-shared-slice-read-side-2
-shared-slice-read-side-2 c = search needs
-
-side-requires-2 : tie.Need-side-requires-2
-side-requires-2 c κs = search needs
-
-add-t17 : tie.Need-add-t17
-add-t17 c = search needs
-
-shared-slice-read-t19 : tie.Need-shared-slice-read-t19
-shared-slice-read-t19 c = search needs
-
+-- src/lib.rt:135:24
 enum-told : tie.Need-enum-told
 enum-told c = search needs
 
+-- src/lib.rt:135:24
+small-plunge-requires : tie.Need-small-plunge-requires
+small-plunge-requires c κs =
+    let at-start = c .before .before .before in
+    subst (λ (s : Size). at-start .args .at + plungeBytes s ≤ length (at-start .args .file .now))
+    (c .enum-told .given .1) (at-start .pre)
+
+-- src/lib.rt:136:24
+enum-told-2 : tie.Need-enum-told-2
+enum-told-2 c = search needs
+
+-- src/lib.rt:136:24
+large-plunge-requires : tie.Need-large-plunge-requires
+large-plunge-requires c κs =
+    let at-start = c .before .before .before in
+    subst (λ (s : Size). at-start .args .at + plungeBytes s ≤ length (at-start .args .file .now))
+    (c .enum-told2 .given .1) (at-start .pre)
+
+-- src/lib.rt:130:1
 returns : tie.Need-returns
 returns c =
-    let at-side = c .before .before .before in
-    let at-maybe = at-side .before .before .before in
-    let at-read = at-maybe .before .before in
-    let at-start = at-read .before .before .before in
-    plunge-read (at-start .args .file .now) (at-start .args .at) _ (at-side .side .result) (c .before .side2 .result)
-    (sym (at-read .read .ensures) ∙ at-maybe .maybe .given .1) (at-side .side .ensures) (c .before .side2 .ensures)
+    let at-start = c .before .before .before .before in
+    c .small-plunge .ensures ∙ ap (λ (s : Size). plungeIf s (at-start .args .file .now) (at-start .args .at))
+    (sym (c .before .enum-told .given .1))
 
+-- src/lib.rt:130:1
 returns-2 : tie.Need-returns-2
 returns-2 c =
-    let at-start = c .before .before .before .before .before in
-    plunge-none (at-start .args .file .now) (at-start .args .at)
-    (sym (c .before .before .read .ensures) ∙ c .enum-told .given .1)
+    let at-start = c .before .before .before .before in
+    c .large-plunge .ensures ∙ ap (λ (s : Size). plungeIf s (at-start .args .file .now) (at-start .args .at))
+    (sym (c .before .enum-told2 .given .1))
 
 pub plunge-at-spec : {M : Type 1} → statement M
 plunge-at-spec =
     tie.close
-    (tie.spec
-    add-read
-    shared-slice-read-read
-    read-requires
-    enum-known-maybe
-    add-side
-    shared-slice-read-side
-    side-requires
-    add-side-2
-    shared-slice-read-side-2
-    side-requires-2
-    add-t17
-    shared-slice-read-t19
-    enum-told
-    returns
-    returns-2)
+    (tie.spec enum-told small-plunge-requires enum-told-2 large-plunge-requires returns returns-2)

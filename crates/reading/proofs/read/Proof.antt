@@ -1,89 +1,51 @@
--- `read` gives the head's fault, or what the fields after a right head come to.
+use Rattle.reading.proofs.FieldSteps.{head-begins, head-narrow, read-on, read-fault}
 use mathlib.Core.Path.{sym, _∙_}
-use native.Mathlib.Omega.{arith}
-use Rattle.reading.proofs.Steps.{head-right}
-use Rattle.reading.proofs.FieldSteps.{head-is, head-narrow, read-on, read-fault}
 use borrow.Author.Needs.{needs}
 use Rattle.reading.proofs.read.Statement.{statement}
 use Rattle.reading.proofs.read.Tie as tie
+use Rattle.reading.proofs.read.Reads as reads
+use Rattle.reading.proofs.read.Lts as lts
+use Rattle.reading.proofs.check_head.Reads as check-head-reads
+use Rattle.reading.proofs.head_in.Reads as head-in-reads
+use Rattle.reading.proofs.read_fields.Reads as read-fields-reads
 
+-- src/lib.rt:251:9
 check-head-requires : tie.Need-check-head-requires
 check-head-requires c κs = search needs
 
+-- src/lib.rt:253:48
 enum-told : tie.Need-enum-told
 enum-told c = search needs
 
-shared-slice-read-head-of : tie.Need-shared-slice-read-head-of
-shared-slice-read-head-of c =
-    let at-check-head = c .before .before .before in
-    let at-start = at-check-head .before .before in
-    omega (
-      arith,
-      head-right (at-start .args .file .now)
-          (sym (at-check-head .check-head .ensures) ∙ c .before .enum-told .given .1) .room,
-    )
+-- src/lib.rt:253:48
+head-in-requires : tie.Need-head-in-requires
+head-in-requires c κs = sym (c .before .before .check-head .ensures) ∙ c .enum-told .given .1
 
-shared-slice-read-side : tie.Need-shared-slice-read-side
-shared-slice-read-side c =
-    let at-check-head = c .before .before .before .before in
-    let at-start = at-check-head .before .before in
-    omega (
-      arith,
-      head-right (at-start .args .file .now)
-          (sym (at-check-head .check-head .ensures) ∙ c .before .before .enum-told .given .1) .room,
-    )
-
-side-requires : tie.Need-side-requires
-side-requires c κs = search needs
-
-shared-slice-read-side-2 : tie.Need-shared-slice-read-side-2
-shared-slice-read-side-2 c =
-    let at-enum-told = c .before .before .before .before in
-    let at-check-head = at-enum-told .before .before in
-    let at-start = at-check-head .before .before in
-    omega (
-      arith,
-      head-right (at-start .args .file .now)
-          (sym (at-check-head .check-head .ensures) ∙ at-enum-told .enum-told .given .1) .room,
-    )
-
-side-requires-2 : tie.Need-side-requires-2
-side-requires-2 c κs = search needs
-
-head-of-requires : tie.Need-head-of-requires
-head-of-requires c κs = search needs
-
+-- src/lib.rt:253:30
 read-fields-requires : tie.Need-read-fields-requires
 read-fields-requires c κs =
-    let at-side = c .before .before .before in
-    let at-enum-told = at-side .before .before .before in
-    let at-check-head = at-enum-told .before .before in
-    let at-start = at-check-head .before .before in
-    let f = at-start .args .file .now in
-    let h = c .head-of .result in
-    let right = sym (at-check-head .check-head .ensures) ∙ at-enum-told .enum-told .given .1 in
-    let is =
-    head-is f h (at-side .side .result) (c .before .side2 .result) (c .head-of .ensures) (at-side .side .ensures)
-    (c .before .side2 .ensures) in
-    (head-right f right .room, is, head-narrow f h is right)
+    let at-check-head = c .before .before .before in
+    let at-start = at-check-head .before .before in (
+      head-begins (at-start .args .file .now) _ (c .head-in .ensures)
+          (sym (at-check-head .check-head .ensures) ∙ c .before .enum-told .given .1),
+      c .head-in .ensures,
+      head-narrow (at-start .args .file .now) _ (c .head-in .ensures)
+          (sym (at-check-head .check-head .ensures) ∙ c .before .enum-told .given .1),
+    )
 
+-- src/lib.rt:254:26
 enum-known-verdict : tie.Need-enum-known-verdict
 enum-known-verdict c = search needs
 
+-- src/lib.rt:248:1
 returns : tie.Need-returns
 returns c =
-    let at-side = c .before .before .before .before in
-    let at-enum-told = at-side .before .before .before in
-    let at-check-head = at-enum-told .before .before in
+    let at-check-head = c .before .before .before .before in
     let at-start = at-check-head .before .before in
-    let f = at-start .args .file .now in
-    let h = c .before .head-of .result in
-    let is =
-    head-is f h (at-side .side .result) (c .before .before .side2 .result) (c .before .head-of .ensures)
-    (at-side .side .ensures) (c .before .before .side2 .ensures) in
-    c .read-fields .ensures ∙ read-on f h is
-    (sym (at-check-head .check-head .ensures) ∙ at-enum-told .enum-told .given .1)
+    c .read-fields .ensures ∙ read-on (at-start .args .file .now) _ (c .before .head-in .ensures)
+    (sym (at-check-head .check-head .ensures) ∙ c .before .before .enum-told .given .1)
 
+-- src/lib.rt:248:1
 returns-2 : tie.Need-returns-2
 returns-2 c =
     let at-check-head = c .before .before .before in
@@ -96,12 +58,7 @@ read-spec =
     (tie.spec
     check-head-requires
     enum-told
-    shared-slice-read-head-of
-    shared-slice-read-side
-    side-requires
-    shared-slice-read-side-2
-    side-requires-2
-    head-of-requires
+    head-in-requires
     read-fields-requires
     enum-known-verdict
     returns

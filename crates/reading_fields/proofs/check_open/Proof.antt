@@ -1,60 +1,84 @@
--- `check_open` gives the first of 6, 7 and 6: each return has the tests that led to it.
-use mathlib.Core.Path.{_∙_}
-use Rattle.reading_fields.specs.Either.{opensEither}
-use Rattle.reading_fields.proofs.Openings.{open-short, open-wrong, open-cut, open-whole}
+use Rattle.reading_fields.specs.Either.{opensEither, sizeEither}
+use mathlib.Core.Path.{sym, _∙_}
+use Rattle.reading_fields.proofs.Openings.{open-short, first-opens, second-opens, none-opens}
 use borrow.Author.Needs.{needs}
 use Rattle.reading_fields.proofs.check_open.Statement.{statement}
 use Rattle.reading_fields.proofs.check_open.Tie as tie
+use Rattle.reading_fields.proofs.check_open.Reads as reads
+use Rattle.reading_fields.proofs.check_open.Lts as lts
+use Rattle.reading_fields.proofs.check_content.Reads as check-content-reads
+use Rattle.reading_fields.proofs.opens.Reads as opens-reads
+use Rattle.refusal.proofs.refuse.Reads as refuse-reads
 
+-- src/lib.rt:49:16
 sub-left : tie.Need-sub-left
 sub-left c = search needs
 
+-- src/lib.rt:51:9
 refuse-requires : tie.Need-refuse-requires
 refuse-requires c κs = search needs
 
+-- src/lib.rt:51:9
 returns : tie.Need-returns
 returns c =
     let at-start = c .before .before .before in
-    let a = at-start .args in
-    let allowed = opensEither (a .tag) (a .other) (a .size) (a .file .now) (a .at) in
-    c .refuse .ensures ∙ open-short (a .file .now) (a .at) allowed (a .size) (at-start .pre) (c .before .if1 .taken)
+    let given = at-start .args in
+    c .refuse .ensures ∙ open-short (given .file .now) (given .at)
+    (opensEither (given .first) (given .second) (given .file .now) (given .at))
+    (sizeEither (given .first) (given .second) (given .file .now) (given .at)) (at-start .pre) (c .before .if1 .taken)
 
-opens-either-requires : tie.Need-opens-either-requires
-opens-either-requires c κs = search needs
+-- src/lib.rt:53:8
+opens-requires : tie.Need-opens-requires
+opens-requires c κs = search needs
 
+-- src/lib.rt:54:9
+check-content-requires : tie.Need-check-content-requires
+check-content-requires c κs = search needs
+
+-- src/lib.rt:54:9
+returns-2 : tie.Need-returns-2
+returns-2 c =
+    let at-if1 = c .before .before .before in
+    let at-start = at-if1 .before .before in
+    let given = at-start .args in
+    c .check-content .ensures ∙ first-opens (given .file .now) (given .at) (given .first) (given .second)
+    (at-start .pre) (at-if1 .if1 .left) (sym (c .before .before .opens .ensures) ∙ c .before .if2 .taken)
+
+-- src/lib.rt:56:8
+opens-requires-2 : tie.Need-opens-requires-2
+opens-requires-2 c κs = search needs
+
+-- src/lib.rt:57:9
+check-content-requires-2 : tie.Need-check-content-requires-2
+check-content-requires-2 c κs = search needs
+
+-- src/lib.rt:57:9
+returns-3 : tie.Need-returns-3
+returns-3 c =
+    let at-if2 = c .before .before .before in
+    let at-opens = at-if2 .before in
+    let at-if1 = at-opens .before in
+    let at-start = at-if1 .before .before in
+    let given = at-start .args in
+    c .check-content2 .ensures ∙ second-opens (given .file .now) (given .at) (given .first) (given .second)
+    (at-start .pre) (at-if1 .if1 .left) (sym (at-opens .opens .ensures) ∙ at-if2 .if2 .left)
+    (sym (c .before .before .opens2 .ensures) ∙ c .before .if3 .taken)
+
+-- src/lib.rt:59:5
 refuse-requires-2 : tie.Need-refuse-requires-2
 refuse-requires-2 c κs = search needs
 
-returns-2 : tie.Need-returns-2
-returns-2 c =
-    let at-opens-either = c .before .before .before in
-    let at-if1 = at-opens-either .before in
-    let at-start = at-if1 .before .before in
-    let a = at-start .args in
-    let allowed = opensEither (a .tag) (a .other) (a .size) (a .file .now) (a .at) in
-    c .refuse2 .ensures ∙ open-cut (a .file .now) (a .at) allowed (a .size) (at-start .pre) (at-if1 .if1 .left) _
-    (at-opens-either .opens-either .ensures) (c .before .before .if2 .taken) (c .before .if3 .taken)
-
-returns-3 : tie.Need-returns-3
-returns-3 c =
-    let at-if1 = c .before .before .before in
-    let at-start = at-if1 .before .before in
-    let a = at-start .args in
-    let allowed = opensEither (a .tag) (a .other) (a .size) (a .file .now) (a .at) in
-    open-whole (a .file .now) (a .at) allowed (a .size) (at-start .pre) (at-if1 .if1 .left) _
-    (c .before .before .opens-either .ensures) (c .before .if2 .taken) (c .if3 .left)
-
-refuse-requires-3 : tie.Need-refuse-requires-3
-refuse-requires-3 c κs = search needs
-
+-- src/lib.rt:44:1
 returns-4 : tie.Need-returns-4
 returns-4 c =
-    let at-if1 = c .before .before .before in
+    let at-if2 = c .before .before .before in
+    let at-opens = at-if2 .before in
+    let at-if1 = at-opens .before in
     let at-start = at-if1 .before .before in
-    let a = at-start .args in
-    let allowed = opensEither (a .tag) (a .other) (a .size) (a .file .now) (a .at) in
-    c .refuse3 .ensures ∙ open-wrong (a .file .now) (a .at) allowed (a .size) (at-start .pre) (at-if1 .if1 .left) _
-    (c .before .before .opens-either .ensures) (c .before .if2 .left)
+    let given = at-start .args in
+    c .refuse2 .ensures ∙ none-opens (given .file .now) (given .at) (given .first) (given .second) (at-start .pre)
+    (at-if1 .if1 .left) (sym (at-opens .opens .ensures) ∙ at-if2 .if2 .left)
+    (sym (c .before .before .opens2 .ensures) ∙ c .before .if3 .left)
 
 pub check-open-spec : {M : Type 1} → statement M
 check-open-spec =
@@ -63,9 +87,11 @@ check-open-spec =
     sub-left
     refuse-requires
     returns
-    opens-either-requires
-    refuse-requires-2
+    opens-requires
+    check-content-requires
     returns-2
+    opens-requires-2
+    check-content-requires-2
     returns-3
-    refuse-requires-3
+    refuse-requires-2
     returns-4)

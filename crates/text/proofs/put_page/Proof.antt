@@ -1,4 +1,5 @@
 -- `put_page` puts line after line, as long as there is room.
+use Rattle.reading.proofs.Answers.{total-few}
 use borrow.Author.Needs.{needs}
 use Rattle.text.proofs.put_page.Statement.{statement}
 use Rattle.text.proofs.put_page.Tie as tie
@@ -30,7 +31,7 @@ loop-holds c =
 add-loop : tie.Need-add-loop Inv-loop μ-loop
 add-loop c =
     let at-start = c .before .before .before in
-    omega (arith, at-start .pre .0 .plunges)
+    omega (arith, at-start .pre .0 .plunges, total-few (at-start .args .file .now) (at-start .pre .0 .readable))
 
 sub-if1 : tie.Need-sub-if1 Inv-loop μ-loop
 sub-if1 c =
@@ -65,7 +66,12 @@ add-next : tie.Need-add-next Inv-loop μ-loop
 add-next c =
     let at-loop-test = c .before .before .before .before .before in
     let at-start = at-loop-test .before .before .before .before in
-    omega (arith, at-start .pre .0 .plunges, at-loop-test .loop-test .taken)
+    omega (
+      arith,
+      at-start .pre .0 .plunges,
+      at-loop-test .loop-test .taken,
+      total-few (at-start .args .file .now) (at-start .pre .0 .readable),
+    )
 
 loop-less : tie.Need-loop-less Inv-loop μ-loop
 loop-less c =

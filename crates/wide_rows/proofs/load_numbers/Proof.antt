@@ -35,17 +35,17 @@ add-at c = omega arith
 mul-at : tie.Need-mul-at Inv-loop μ-loop
 mul-at c = omega arith
 
-shared-slice-read-number-of : tie.Need-shared-slice-read-number-of Inv-loop μ-loop
-shared-slice-read-number-of c = omega arith
+shared-slice-read-of-bytes : tie.Need-shared-slice-read-of-bytes Inv-loop μ-loop
+shared-slice-read-of-bytes c = omega arith
 
-add-number-of : tie.Need-add-number-of Inv-loop μ-loop
-add-number-of c = omega arith
+add-of-bytes : tie.Need-add-of-bytes Inv-loop μ-loop
+add-of-bytes c = omega arith
 
-shared-slice-read-number-of-2 : tie.Need-shared-slice-read-number-of-2 Inv-loop μ-loop
-shared-slice-read-number-of-2 c = omega arith
+shared-slice-read-of-bytes-2 : tie.Need-shared-slice-read-of-bytes-2 Inv-loop μ-loop
+shared-slice-read-of-bytes-2 c = omega arith
 
-number-of-requires : tie.Need-number-of-requires Inv-loop μ-loop
-number-of-requires c κs = search needs
+of-bytes-requires : tie.Need-of-bytes-requires Inv-loop μ-loop
+of-bytes-requires c κs = search needs
 
 mul-row : tie.Need-mul-row Inv-loop μ-loop
 mul-row c = omega arith
@@ -66,7 +66,7 @@ loop-again c =
       omega arith,
       omega arith,
       filled-more _ _ _ _ _ _ (at-loop .loop .inv .2) (omega arith) (omega arith)
-          (c .number-of .ensures ∙ sym (getD-wide (given .map .now) (given .from + (at-loop .loop .n - margin)) (omega arith))),
+          (c .of-bytes .ensures ∙ sym (getD-wide (given .map .now) (given .from + (at-loop .loop .n - margin)) (omega arith))),
     )
 
 returns : tie.Need-returns Inv-loop μ-loop
@@ -87,10 +87,10 @@ load-numbers-spec =
     sub-at
     add-at
     mul-at
-    shared-slice-read-number-of
-    add-number-of
-    shared-slice-read-number-of-2
-    number-of-requires
+    shared-slice-read-of-bytes
+    add-of-bytes
+    shared-slice-read-of-bytes-2
+    of-bytes-requires
     mul-row
     element-write-row
     add-n

@@ -34,8 +34,8 @@ mul-number c = omega arith
 element-copy-out-number : tie.Need-element-copy-out-number Inv-loop μ-loop
 element-copy-out-number c = omega arith
 
-high-byte-requires : tie.Need-high-byte-requires Inv-loop μ-loop
-high-byte-requires c κs = search needs
+first-byte-requires : tie.Need-first-byte-requires Inv-loop μ-loop
+first-byte-requires c κs = search needs
 
 mul-out : tie.Need-mul-out Inv-loop μ-loop
 mul-out c = omega arith
@@ -43,8 +43,8 @@ mul-out c = omega arith
 slice-write-out : tie.Need-slice-write-out Inv-loop μ-loop
 slice-write-out c = omega arith
 
-low-byte-requires : tie.Need-low-byte-requires Inv-loop μ-loop
-low-byte-requires c κs = search needs
+second-byte-requires : tie.Need-second-byte-requires Inv-loop μ-loop
+second-byte-requires c κs = search needs
 
 mul-out-2 : tie.Need-mul-out-2 Inv-loop μ-loop
 mul-out-2 c = omega arith
@@ -66,7 +66,7 @@ loop-again c =
     let at-loop = c .before .before .before .before in (
       omega arith,
       omega arith,
-      wide-more _ _ _ _ _ _ _ (at-loop .loop .inv .2) (omega arith) (omega arith) (c .before .high-byte .ensures) (c .low-byte .ensures),
+      wide-more _ _ _ _ _ _ _ (at-loop .loop .inv .2) (omega arith) (omega arith) (c .before .first-byte .ensures) (c .second-byte .ensures),
     )
 
 same-length : tie.Need-same-length Inv-loop μ-loop
@@ -87,10 +87,10 @@ store-row-spec =
     add-number
     mul-number
     element-copy-out-number
-    high-byte-requires
+    first-byte-requires
     mul-out
     slice-write-out
-    low-byte-requires
+    second-byte-requires
     mul-out-2
     add-out
     slice-write-out-2

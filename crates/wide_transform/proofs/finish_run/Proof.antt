@@ -18,29 +18,29 @@ abbrev μ-loop : tie.MeasureT-loop
 loop-holds : tie.Need-loop-holds Inv-loop μ-loop
 loop-holds c = (omega arith, wide-none _ _ _)
 
-mul-number-of : tie.Need-mul-number-of Inv-loop μ-loop
-mul-number-of c = omega arith
+mul-of-bytes : tie.Need-mul-of-bytes Inv-loop μ-loop
+mul-of-bytes c = omega arith
 
-slice-read-number-of : tie.Need-slice-read-number-of Inv-loop μ-loop
-slice-read-number-of c = omega arith
+slice-read-of-bytes : tie.Need-slice-read-of-bytes Inv-loop μ-loop
+slice-read-of-bytes c = omega arith
 
-mul-number-of-2 : tie.Need-mul-number-of-2 Inv-loop μ-loop
-mul-number-of-2 c = omega arith
+mul-of-bytes-2 : tie.Need-mul-of-bytes-2 Inv-loop μ-loop
+mul-of-bytes-2 c = omega arith
 
-add-number-of : tie.Need-add-number-of Inv-loop μ-loop
-add-number-of c = omega arith
+add-of-bytes : tie.Need-add-of-bytes Inv-loop μ-loop
+add-of-bytes c = omega arith
 
-slice-read-number-of-2 : tie.Need-slice-read-number-of-2 Inv-loop μ-loop
-slice-read-number-of-2 c = omega arith
+slice-read-of-bytes-2 : tie.Need-slice-read-of-bytes-2 Inv-loop μ-loop
+slice-read-of-bytes-2 c = omega arith
 
-number-of-requires : tie.Need-number-of-requires Inv-loop μ-loop
-number-of-requires c κs = search needs
+of-bytes-requires : tie.Need-of-bytes-requires Inv-loop μ-loop
+of-bytes-requires c κs = search needs
 
 sub-distance : tie.Need-sub-distance Inv-loop μ-loop
 sub-distance c = omega arith
 
-high-byte-requires : tie.Need-high-byte-requires Inv-loop μ-loop
-high-byte-requires c κs = search needs
+first-byte-requires : tie.Need-first-byte-requires Inv-loop μ-loop
+first-byte-requires c κs = search needs
 
 mul-out : tie.Need-mul-out Inv-loop μ-loop
 mul-out c = omega arith
@@ -48,8 +48,8 @@ mul-out c = omega arith
 slice-write-out : tie.Need-slice-write-out Inv-loop μ-loop
 slice-write-out c = omega arith
 
-low-byte-requires : tie.Need-low-byte-requires Inv-loop μ-loop
-low-byte-requires c κs = search needs
+second-byte-requires : tie.Need-second-byte-requires Inv-loop μ-loop
+second-byte-requires c κs = search needs
 
 mul-out-2 : tie.Need-mul-out-2 Inv-loop μ-loop
 mul-out-2 c = omega arith
@@ -68,13 +68,13 @@ loop-less c = omega arith
 
 loop-again : tie.Need-loop-again Inv-loop μ-loop
 loop-again c =
-    let at-number-of = c .before .before in
-    let at-loop = at-number-of .before .before .before .before in
-    let old = wide-next _ _ _ _ _ _ (at-loop .loop .inv .1) (omega arith) (at-number-of .number-of .ensures) in (
+    let at-of-bytes = c .before .before in
+    let at-loop = at-of-bytes .before .before .before .before in
+    let old = wide-next _ _ _ _ _ _ (at-loop .loop .inv .1) (omega arith) (at-of-bytes .of-bytes .ensures) in (
       omega arith,
       wide-more _ _ _ _ _ _ _ (at-loop .loop .inv .1) (omega arith) (omega arith)
-          (c .before .high-byte .ensures ∙ ap (λ v. (wideWall - v) / 256) old)
-          (c .low-byte .ensures ∙ ap (λ v. (wideWall - v) % 256) old),
+          (c .before .first-byte .ensures ∙ ap (λ v. (wideWall - v) / 256) old)
+          (c .second-byte .ensures ∙ ap (λ v. (wideWall - v) % 256) old),
     )
 
 same-length : tie.Need-same-length Inv-loop μ-loop
@@ -90,17 +90,17 @@ finish-run-spec =
     Inv-loop
     μ-loop
     loop-holds
-    mul-number-of
-    slice-read-number-of
-    mul-number-of-2
-    add-number-of
-    slice-read-number-of-2
-    number-of-requires
+    mul-of-bytes
+    slice-read-of-bytes
+    mul-of-bytes-2
+    add-of-bytes
+    slice-read-of-bytes-2
+    of-bytes-requires
     sub-distance
-    high-byte-requires
+    first-byte-requires
     mul-out
     slice-write-out
-    low-byte-requires
+    second-byte-requires
     mul-out-2
     add-out
     slice-write-out-2

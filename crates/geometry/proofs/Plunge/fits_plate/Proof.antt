@@ -5,9 +5,6 @@ use borrow.Author.Needs.{needs}
 use Rattle.geometry.proofs.Plunge.fits_plate.Statement.{statement}
 use Rattle.geometry.proofs.Plunge.fits_plate.Tie as tie
 
-cast-reach : tie.Need-cast-reach
-cast-reach c = search needs
-
 cast-if3 : tie.Need-cast-if3
 cast-if3 c = search needs
 
@@ -35,7 +32,7 @@ cast-result-3 c = search needs
 returns : tie.Need-returns
 returns c =
     let d = c .before .before .before .before .before in
-    let a = d .before .before .before .before .before .args in
+    let a = d .before .before .before .before .args in
     let across : a .self .column + a .self .reach .0 < a .head .width = c .before .before .if3 .taken in
     simp (le-leb _ _ (d .before .before .if1 .taken), le-leb _ _ (d .if2 .taken), lt-ltb _ _ across)
 
@@ -54,7 +51,6 @@ pub fits-plate-spec : {M : Type 1} → statement M
 fits-plate-spec =
     tie.close
     (tie.spec
-    cast-reach
     cast-if3
     cast-if3-2
     add-if3
