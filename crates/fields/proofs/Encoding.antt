@@ -70,6 +70,17 @@ bytes-none Large = refl
 pub fields-few : (s : Size) (qs : List Plunge) (n : ℕ) → length qs ≤ n → length (plungeFields s qs) ≤ plungeBytes s * n
 fields-few s qs n h = omega (arith, plungeFields-length s qs, bytes-le s h)
 
+pub encoded-length : (p : Head) (qs : List Plunge) → length (encoded p qs) ≡ fileLength p (length qs)
+unfolding encoded
+encoded-length p qs =
+    omega (
+      arith,
+      length-append (headField p ++ plungeFields (sizeOf p) qs) (endField (length qs)),
+      length-append (headField p) (plungeFields (sizeOf p) qs),
+      plungeFields-length (sizeOf p) qs,
+      head-length (sizeOf p) p,
+    )
+
 -- places of fields
 pub place-next : (p : Head) (n : ℕ) → place p (suc n) ≡ place p n + plungeBytes (sizeOf p)
 place-next p n = omega (arith, bytes-suc (sizeOf p) n)
@@ -111,17 +122,6 @@ length-total p l n = go (sizeOf p)
     go : (s : Size) → l ≡ headBytes s + plungeBytes s * n + endBytes → (l - (headBytes s + plungeBytes s * 0 + endBytes)) / plungeBytes s ≡ n
     go Small e = omega arith
     go Large e = omega arith
-
-pub encoded-length : (p : Head) (qs : List Plunge) → length (encoded p qs) ≡ fileLength p (length qs)
-unfolding encoded
-encoded-length p qs =
-    omega (
-      arith,
-      length-append (headField p ++ plungeFields (sizeOf p) qs) (endField (length qs)),
-      length-append (headField p) (plungeFields (sizeOf p) qs),
-      plungeFields-length (sizeOf p) qs,
-      head-length (sizeOf p) p,
-    )
 
 -- the file in its parts, grouped from the end
 pub encoded-parts : (p : Head) (qs : List Plunge) → encoded p qs ≡ headField p ++ (plungeFields (sizeOf p) qs ++ endField (length qs))
