@@ -20,8 +20,8 @@ send-listing-requires c κs =
 
 place-requires : tie.Need-place-requires
 place-requires c κs =
-    let at-start =
-    c .before .before .before .before .before .before .before .before .before .before .before .before .before .before in
+    let at-send-listing = c .before .before .before .before .before .before in
+    let at-start = at-send-listing .before .before .before .before .before .before .before .before in
     omega (
       arith,
       ap₂ place (at-start .pre .head) (at-start .pre .count),

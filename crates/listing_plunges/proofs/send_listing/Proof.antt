@@ -128,8 +128,8 @@ returns c =
 
 loop-less : tie.Need-loop-less Inv-loop μ-loop
 loop-less c =
-    let at-next =
-    c .before .before .before .before .before .before .before .before .before .before .before .before .before in
+    let at-send-run = c .before .before .before .before .before in
+    let at-next = at-send-run .before .before .before .before .before .before .before .before in
     let at-loop = at-next .before .before .before .before .before in
     at-next .next .ensures .less _ _ _ (at-loop .loop .inv .2 .climbs)
 

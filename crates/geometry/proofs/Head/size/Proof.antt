@@ -13,7 +13,9 @@ returns c =
 
 -- src/lib.rt:60:5
 returns-2 : tie.Need-returns-2
-returns-2 c = let at-start = c .before .before .before .before in sym (tall-size (at-start .args .self) (c .if2 .left))
+returns-2 c =
+    let at-start = c .before .before .before .before in
+    sym (tall-size (at-start .args .self) (c .if2 .left))
 
 -- src/lib.rt:60:5
 returns-3 : tie.Need-returns-3
