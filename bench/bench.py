@@ -2,7 +2,7 @@
 
 Outputs are asserted equal first. Samples are taken in random order, equally many of each; a sample is as many calls as take some
 milliseconds. Pointers are made ready before; what a call over ctypes costs counts for the library, as numpy's calls do for the peers.
-Writes bench/RESULTS.md and bench/results.png.
+Writes bench/RESULTS.md and bench/results.png. Ends with 1 if a thin relief takes longer than document 02, N3, allows.
 """
 import argparse
 import datetime
@@ -36,7 +36,10 @@ RUNG = 60
 SIDE = 240
 WANTED = {"listing": 3.0, "drawing": 2.0, "clearance map": 1.0}   # at least so many times as fast as OpenCV
 NOISE = {"listing": 2.5, "drawing": 1.5, "clearance map": 1.0}    # the same for noise
-THIN = 1 / 5                                                      # 13 columns against all depth 1, at most
+
+# document 02, N3: "depth 1 in its first 13 columns and 0 elsewhere lists in at most a third of the time that depth 1 everywhere takes"
+THIN, THIN_MOST = 13, 1 / 3
+COLUMNS = (6, THIN, 25, 60)
 
 
 # what was tried and stays as it is, for the page
@@ -52,8 +55,6 @@ TRIED = ["A list past 32 KiB is climbed for twice, once to count it, so that an 
 
 def plates(side):
     rng = np.random.default_rng(20080)
-    thin = np.zeros((side, side), np.uint8)
-    thin[:, :13] = 1
     y, x = np.abs(scans.distance_from_middle(side, side))
     rough = rng.integers(0, 256, (side, side)).astype(np.uint8)
     smooth = cv2.GaussianBlur(rough, (0, 0), 5).astype(float)
@@ -62,10 +63,17 @@ def plates(side):
         "noise": rough,
         "dome": scans.make(rng, scans.dome, side, side),
         "cone": np.maximum(0, 255 - 255 * np.hypot(y, x) / (side / 2)).astype(np.uint8),
-        "13 columns": thin,
+        f"{THIN} columns": first_columns(THIN, side),
         "photo texture": np.clip(128 + (smooth - 128) * 12, 0, 255).astype(np.uint8),
         "stamp text": stamp(side),
     }
+
+
+def first_columns(number, side, width=None):
+    """Depth 1 in the first columns of a plate, which is a square if no width is given."""
+    out = np.zeros((side, width or side), np.uint8)
+    out[:, :number] = 1
+    return out
 
 
 def stamp(side):
@@ -112,6 +120,13 @@ class Ours:
     def drawing(self, file):
         out = np.zeros(self.relief.size, np.uint8)
         return self.ready("haru_draw", file, out, answer=out)
+
+    def tidying(self, file):
+        out = np.zeros(len(file), np.uint8)
+        return self.ready("haru_tidy", file, out, *self.works, answer=out)
+
+    def check(self, file):
+        return self.ready("haru_check", file, *self.works, answer=None)
 
 
 def peer(function, *arguments):
@@ -300,6 +315,22 @@ def side_table(sides):
     return lines + [""]
 
 
+def thin_table(thin):
+    lines = ["| Call | Kind | Columns with depth | µs | of depth 1 everywhere | of these columns as a plate |", "|---|---|---|---|---|---|"]
+    for (call, kind), times in thin.items():
+        for number in COLUMNS:
+            here, whole, alone = times[number, SIDE], times[SIDE, SIDE], times[number, number]
+            lines.append(f"| {call} | {kind} | {number} | {here[0]:,.1f} ({here[1]:,.1f}) | **{here[0] / whole[0]:.3f}** | {here[0] / alone[0]:.2f} |")
+    return lines + [""]
+
+
+def too_slow(thin):
+    """What of a thin relief takes more than N3 allows."""
+    ratios = {kind: times[THIN, SIDE][0] / times[SIDE, SIDE][0] for (call, kind), times in thin.items() if call == "listing"}
+    return [f"listing, {THIN} columns, kind {kind}: {ratio:.3f} of the time of depth 1 everywhere; a third is allowed"
+            for kind, ratio in ratios.items() if ratio > THIN_MOST]
+
+
 def calls_of(results):
     return list(dict.fromkeys(call for call, _, _ in results))
 
@@ -367,16 +398,18 @@ def write(results, sides, thin, short, asked, head):
         lines += ["Listing and drawing were skipped.", ""]
     lines += [f"- {line}" for line in short] or ["Nothing of what was timed."]
     lines += ["", f"Wanted: listing at least {WANTED['listing']:g} times as fast as the fastest OpenCV loop on every plate and kind, of noise",
-              f"{NOISE['listing']:g} times; drawing {WANTED['drawing']:g} times, of noise {NOISE['drawing']:g} times; clearance at least level;",
-              "13 columns listed in at most a fifth of the time of all depth 1.", ""]
+              f"{NOISE['listing']:g} times; drawing {WANTED['drawing']:g} times, of noise {NOISE['drawing']:g} times; clearance at least level.", ""]
     lines += TRIED
     behind = slower(results)
     if behind:
         lines += ["Slower than a peer in a call of which nothing is wanted (for rungs of kind 8 OpenCV joins all steps into one large square):", ""]
         lines += [f"- {line}" for line in behind] + [""]
     if thin:
-        lines += ["## Thin reliefs", "", "Listing of depth 1 in the first 13 columns only, as a part of the time for depth 1 everywhere:", ""]
-        lines += [f"- kind {kind}: {ratio:.2f}" for kind, ratio in thin.items()] + [""]
+        lines += ["## Thin reliefs", "",
+                  f"Depth 1 in the first columns of a plate of {SIDE} by {SIDE} cells, 0 elsewhere: the time (median), what part that is of the time",
+                  "for depth 1 everywhere, and of the time for a plate that has just these columns. `bench/run` fails if a listing of",
+                  f"{THIN} columns takes more than a third of depth 1 everywhere (document 02, N3); `bench/run --thin` times this table alone.", ""]
+        lines += thin_table(thin)
     lines += ["## Times", ""]
     for call in calls_of(results):
         lines += table(results, call)
@@ -418,13 +451,28 @@ def time_sides(calls, asked):
 
 
 def time_thin(calls, asked):
-    """{kind: how much of the time for depth 1 everywhere the 13 columns take}"""
+    """{(call, kind): {(columns with depth, width of the plate): times}}, of the library alone"""
     thin = {}
     for kind in (4, 8) if "haru_list" in calls else ():
-        pair = {plate: Ours(calls, plates(SIDE)[plate], kind).listing(1 << 16) for plate in ("13 columns", "all depth 1")}
-        times = race(pair, 2 * asked.samples, asked.least)
-        thin[kind] = times["13 columns"][0] / times["all depth 1"][0]
+        ready = {}
+        for number, width in [(n, SIDE) for n in (*COLUMNS, SIDE)] + [(n, n) for n in COLUMNS]:
+            relief = first_columns(number, SIDE, width)
+            file = peers.cv_listing(relief, kind, "box")
+            ours = Ours(calls, relief, kind)
+            contestants = {"listing": ours.listing(len(file)), "tidying": ours.tidying(file), "check": ours.check(file)}
+            for call, (function, answer) in contestants.items():
+                assert answer is None or answer.tobytes() == file.tobytes(), f"{call}: {number} of {width} columns differ"
+                ready.setdefault(call, {})[number, width] = (function, answer)
+        for call, contestants in ready.items():
+            thin[call, kind] = race(contestants, 2 * asked.samples, asked.least)
     return thin
+
+
+def fails(thin):
+    """The status of a run: 1 if a thin relief takes longer than it may."""
+    slow = too_slow(thin)
+    print("".join(f"\nFAILS: {line}" for line in slow), end="\n" if slow else "")
+    return 1 if slow else 0
 
 
 def main():
@@ -433,6 +481,7 @@ def main():
     asked.add_argument("--least", type=float, default=0.002, help="seconds that a sample takes at least")
     asked.add_argument("--quick", action="store_true", help="three samples of each, and no SciPy")
     asked.add_argument("--maps-only", action="store_true", help="no listing and drawing")
+    asked.add_argument("--thin", action="store_true", help="the table of thin reliefs alone; nothing is written")
     asked.add_argument("--library", default=SHARED)
     asked.add_argument("--out", default=HERE, help="where RESULTS.md and results.png go")
     asked = asked.parse_args()
@@ -445,13 +494,16 @@ def main():
         return 1
     if asked.maps_only:
         calls = {name: call for name, call in calls.items() if name in library.MAP_CALLS}
+    if asked.thin:
+        thin = time_thin(calls, asked)
+        print("\n".join(thin_table(thin)))
+        return fails(thin)
     head = machine()
     results, sides, thin = time_plates(calls, asked), time_sides(calls, asked), time_thin(calls, asked)
     short = short_of(results)
-    short += [f"13 columns, kind {kind}: {ratio:.2f} of all depth 1; wanted at most a fifth" for kind, ratio in thin.items() if ratio > THIN]
-    write(results, sides, thin, short, asked, head)
+    write(results, sides, thin, short + too_slow(thin), asked, head)
     print("\nfalls short:" + ("".join(f"\n  {line}" for line in short) or " nothing"))
-    return 0
+    return fails(thin)
 
 
 if __name__ == "__main__":

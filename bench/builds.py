@@ -31,8 +31,8 @@ def contestants(calls, relief, kind, level, file, numbers):
     size = relief.shape[::-1]
     return {
         "listing": ours.listing(len(file)),
-        "tidying": ours.ready("haru_tidy", file, out, *ours.works, answer=out),
-        "check": ours.ready("haru_check", file, *ours.works, answer=None),
+        "tidying": ours.tidying(file),
+        "check": ours.check(file),
         "drawing": ours.drawing(file),
         "reading": ours.ready("haru_read", file, answer=None),
         "clearance map": ours.map("haru_clearance_map", level),

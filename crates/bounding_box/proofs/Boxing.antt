@@ -4,18 +4,19 @@ use mathlib.Core.List.{List}
 use Prim.Native.Nat.{ℕ, _+_, _*_, _-_, _≤_, _<_, max}
 use native.Mathlib.Omega.{arith}
 use native.Mathlib.Decide.{decLe}
-use native.Mathlib.Nat.{suc-mul, mul-le-mul-right, mul-le-mul}
+use native.Mathlib.Nat.{suc-mul, add-mul, mul-le-mul-right, mul-le-mul}
 use native.Mathlib.Numerals.{add-one}
+use lib.Arith.{digits-lt}
 use lib.ListN.{length, getD, set}
 use lib.Seq.{getD-set-same, getD-set-other}
 use Rattle.geometry.specs.declared.Head.{Head}
 use Rattle.geometry.specs.Plate.{area}
 use Rattle.refusal.specs.Sides.{Sides}
 use Rattle.buffers.specs.Fill.{Filled}
-use Rattle.buffers.proofs.Fill.{filled-none, filled-more, row-under}
+use Rattle.buffers.proofs.Fill.{filled-none, filled-more, filled-as, row-under}
 use Rattle.bounding_box.specs.declared.Bounds.{Bounds}
 use Rattle.bounding_box.specs.declared.Span.{Span}
-use Rattle.bounding_box.specs.Boxes.{Within, BareOutside, CroppedRows, Cropped, Croppable, Joined, Topped, Bare, Spans}
+use Rattle.bounding_box.specs.Boxes.{Within, BareOutside, CopiedRows, Copied, Copyable, CroppedRows, Cropped, Croppable, Joined, Topped, Bare, Spans}
 
 -- ---- stretches without a number above 0
 
@@ -123,6 +124,63 @@ module _ (p : Head) (a d : Span) (columns rows : List ℕ) where
         south = λ x y g h l. omega (arith, t .down x y g h, u .over .none y l h);
       }
 
+-- ---- rows copied
+
+-- rows of the whole width lie in both maps
+pub whole-room : (w : ℕ) (b : Bounds) (src dst : List ℕ) → Copyable w b src dst
+    → (b .row * w + b .height * w ≤ length src) × (b .width ≡ w → b .height * w ≤ length dst)
+whole-room w b src dst h = (
+  omega (arith, h .box .down, add-mul (b .row) (b .height) w),
+  λ e. omega (arith, h .room, ap (λ (n : ℕ). b .height * n) e),
+)
+
+module _ (w : ℕ) (b : Bounds) (src old : List ℕ) where
+  pub copied-none : CopiedRows w b 0 src old old
+  copied-none = record { same = refl; holds = λ x y g l. absurd (omega arith); surplus = λ n l. refl }
+
+  -- one row more
+  pub copied-more : (y : ℕ) (mid new : List ℕ) → CopiedRows w b y src old mid
+      → Filled (λ n. getD src ((y + b .row) * w + b .column + (n - y * b .width)) 0) (y * b .width) (y * b .width + b .width) mid new
+      → CopiedRows w b (y + 1) src old new
+  copied-more y mid new c g =
+      record {
+        same = g .same ∙ c .same;
+        holds = λ x i a h. go x i a h (decLe y i);
+        surplus = λ n h. g .over n (omega (arith, more)) ∙ c .surplus n (omega (arith, more));
+      }
+    where
+      more : (y + 1) * b .width ≡ y * b .width + b .width
+      more = ap (λ (n : ℕ). n * b .width) (add-one y) ∙ suc-mul y (b .width)
+
+      go : (x i : ℕ) → x < b .width → i < y + 1 → Dec (y ≤ i) → getD new (i * b .width + x) 0 ≡ getD src ((i + b .row) * w + (x + b .column)) 0
+      go x i a h (yes d) =
+          let k : i ≡ y = omega arith in
+          let j : (y + b .row) * w + b .column + (y * b .width + x - y * b .width) ≡ (y + b .row) * w + (x + b .column) = omega arith in
+          rw k (g .inside (y * b .width + x) (omega arith) (omega arith) ∙ ap (λ (n : ℕ). getD src n 0) j)
+      go x i a h (no d) =
+          g .under (i * b .width + x) (row-under (b .width) y x i a (omega arith)) ∙ c .holds x i a (omega arith)
+
+  pub copied-end : (y : ℕ) (new : List ℕ) → y ≤ b .height → b .height ≤ y → CopiedRows w b y src old new → Copied w b src old new
+  copied-end y new l g c = let k : y ≡ b .height = omega arith in subst (λ (n : ℕ). CopiedRows w b n src old new) k c
+
+  -- rows of the whole width are one stretch
+  pub copied-whole : (new : List ℕ) → b .width ≡ w → b .column + b .width ≤ w
+      → Filled (λ n. getD src (b .row * w + (n - 0)) 0) 0 (0 + b .height * w) old new → Copied w b src old new
+  copied-whole new e l f =
+      record {
+        same = f .same;
+        holds = λ x y a h. f .inside (y * b .width + x) (omega arith) (omega (arith, area, digits-lt h a)) ∙ ap (λ (n : ℕ). getD src n 0) (at x y);
+        surplus = λ n h. f .over n (omega (arith, area));
+      }
+    where
+      area : b .height * b .width ≡ b .height * w
+      area = ap (λ (n : ℕ). b .height * n) e
+
+      at : (x y : ℕ) → b .row * w + (y * b .width + x - 0) ≡ (y + b .row) * w + (x + b .column)
+      at x y =
+          let j : y * b .width ≡ y * w = ap (λ (n : ℕ). y * n) e in
+          omega (arith, j, l, e, add-mul y (b .row) w)
+
 -- ---- rows cropped
 
 -- a box of a plate can be cropped to
@@ -160,36 +218,18 @@ module _ (w : ℕ) (b : Bounds) (old : List ℕ) where
         behind = omega (arith, least);
       }
 
-  pub cropped-none : CroppedRows w b 0 old old
-  cropped-none = record { same = refl; holds = λ x y g l. absurd (omega arith); surplus = λ n l. refl }
-
   -- one row more, by way of an array
   pub cropped-more : (y : ℕ) (mid new line line′ : List ℕ) → Room y → CroppedRows w b y old mid
       → Filled (λ n. getD mid ((y + b .row) * w + b .column + n) 0) 0 (b .width) line line′
       → Filled (λ n. getD line′ (n - y * b .width) 0) (y * b .width) (y * b .width + b .width) mid new → CroppedRows w b (y + 1) old new
-  cropped-more y mid new line line′ r c f g =
-      record {
-        same = g .same ∙ c .same;
-        holds = λ x i a h. go x i a h (decLe y i);
-        surplus = λ n h. g .over n (omega (arith, more)) ∙ c .surplus n (omega (arith, more));
-      }
+  cropped-more y mid new line line′ r c f g = copied-more w b old old y mid new c (filled-as _ _ (y * b .width) (y * b .width + b .width) mid new g still)
     where
-      more : (y + 1) * b .width ≡ y * b .width + b .width
-      more = ap (λ (n : ℕ). n * b .width) (add-one y) ∙ suc-mul y (b .width)
-
-      go : (x i : ℕ) → x < b .width → i < y + 1 → Dec (y ≤ i) → getD new (i * b .width + x) 0 ≡ getD old ((i + b .row) * w + (x + b .column)) 0
-      go x i a h (yes d) =
-          let k : i ≡ y = omega arith in
-          let j : y * b .width + x - y * b .width ≡ x = omega arith in
-          let s : (y + b .row) * w + b .column + x ≡ (y + b .row) * w + (x + b .column) = omega arith in
-          rw k
-          (g .inside (y * b .width + x) (omega arith) (omega arith) ∙ ap (λ (n : ℕ). getD line′ n 0) j ∙ f .inside x (omega arith) a
-          ∙ c .surplus ((y + b .row) * w + b .column + x) (omega (arith, r .behind)) ∙ ap (λ (n : ℕ). getD old n 0) s)
-      go x i a h (no d) =
-          g .under (i * b .width + x) (row-under (b .width) y x i a (omega arith)) ∙ c .holds x i a (omega arith)
-
-  pub cropped-end : (y : ℕ) (new : List ℕ) → y ≤ b .height → b .height ≤ y → CroppedRows w b y old new → Cropped w b old new
-  cropped-end y new l g c = let k : y ≡ b .height = omega arith in subst (λ (n : ℕ). CroppedRows w b n old new) k c
+      -- the row has not been written over yet
+      still : (n : ℕ) → y * b .width ≤ n → n < y * b .width + b .width
+          → getD line′ (n - y * b .width) 0 ≡ getD old ((y + b .row) * w + b .column + (n - y * b .width)) 0
+      still n a h =
+          f .inside (n - y * b .width) (omega arith) (omega arith)
+          ∙ c .surplus ((y + b .row) * w + b .column + (n - y * b .width)) (omega (arith, r .behind))
 
   -- rows of the whole width from the first on stand where they are to stand
   pub cropped-whole : b .row ≡ 0 → b .width ≡ w → b .column + b .width ≤ w → Cropped w b old old

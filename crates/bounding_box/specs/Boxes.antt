@@ -1,4 +1,4 @@
--- Serves proofs: a box of a plate outside of which a map is 0, what finding it leaves in arrays, and a map cropped to a box.
+-- Serves proofs: a box of a plate outside of which a map is 0, what finding it leaves in arrays, and a box copied or a map cropped to it.
 use mathlib.Core.Path.{_≡_}
 use mathlib.Core.List.{List}
 use Prim.Native.Nat.{ℕ, _+_, _*_, _≤_, _<_, max}
@@ -27,15 +27,21 @@ pub record BareOutside (p : Head) (b : Bounds) (m : List ℕ) : Type 0 where
   pub north : (x y : ℕ) → x < p .width → y < p .height → y < b .row → getD m (y * p .width + x) 0 ≡ 0
   pub south : (x y : ℕ) → x < p .width → y < p .height → b .row + b .height ≤ y → getD m (y * p .width + x) 0 ≡ 0
 
--- the numbers of a box's first rows stand at the front of a map, row after row; what lies past them is as it was
-pub record CroppedRows (w : ℕ) (b : Bounds) (rows : ℕ) (old new : List ℕ) : Type 0 where
+-- the numbers of the first rows of a box of one map stand at the front of another, row after row; what lies past them there is as it was
+pub record CopiedRows (w : ℕ) (b : Bounds) (rows : ℕ) (src old new : List ℕ) : Type 0 where
   pub same : length new ≡ length old
-  pub holds : (x y : ℕ) → x < b .width → y < rows → getD new (y * b .width + x) 0 ≡ getD old ((y + b .row) * w + (x + b .column)) 0
+  pub holds : (x y : ℕ) → x < b .width → y < rows → getD new (y * b .width + x) 0 ≡ getD src ((y + b .row) * w + (x + b .column)) 0
   pub surplus : (n : ℕ) → rows * b .width ≤ n → getD new n 0 ≡ getD old n 0
 
--- a box's numbers stand at the front of a map
+-- all rows of a box; and at the front of the map that they are of
+abbrev pub Copied : ℕ → Bounds → List ℕ → List ℕ → List ℕ → Type 0
+Copied w b = CopiedRows w b (b .height)
+
+abbrev pub CroppedRows : ℕ → Bounds → ℕ → List ℕ → List ℕ → Type 0
+CroppedRows w b rows old = CopiedRows w b rows old old
+
 abbrev pub Cropped : ℕ → Bounds → List ℕ → List ℕ → Type 0
-Cropped w b = CroppedRows w b (b .height)
+Cropped w b old = Copied w b old old
 
 -- a box, no wider than a plate may be, of a map with rows of w bytes
 pub record Croppable (w : ℕ) (b : Bounds) (m : List ℕ) : Type 0 where
@@ -43,6 +49,11 @@ pub record Croppable (w : ℕ) (b : Bounds) (m : List ℕ) : Type 0 where
   pub narrow : b .width ≤ largestSide
   pub across : b .column + b .width ≤ w
   pub down : (b .row + b .height) * w ≤ length m
+
+-- such a box, and another map with room for it
+pub record Copyable (w : ℕ) (b : Bounds) (src dst : List ℕ) : Type 0 where
+  pub box : Croppable w b src
+  pub room : b .height * b .width ≤ length dst
 
 -- ---- joined columns and rows
 

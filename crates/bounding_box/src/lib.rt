@@ -1,4 +1,4 @@
-// The smallest box of a plate outside of which a map is 0, and a map cropped to a box in place.
+// The smallest box of a plate outside of which a map is 0; a box copied to another map, and a map cropped to a box in place.
 use geometry::Head;
 ghost use mathlib.Core.Path.{_≡_};
 ghost use Prim.Native.Nat.{_+_, _-_, _≤_};
@@ -7,7 +7,8 @@ ghost use Rattle.geometry.specs.Plate.{area};
 ghost use Rattle.refusal.specs.Refusals.{largestSide};
 ghost use Rattle.refusal.specs.Sides.{Sides};
 ghost use Rattle.buffers.specs.Fill.{Filled};
-ghost use Rattle.bounding_box.specs.Boxes.{Within, BareOutside, Cropped, Croppable, Joinable, Joined, Plates, Topped, Bare, Spans};
+ghost use Rattle.bounding_box.specs.Boxes.{Within, BareOutside, Copied, Copyable, Cropped, Croppable};
+ghost use Rattle.bounding_box.specs.Boxes.{Joinable, Joined, Plates, Topped, Bare, Spans};
 
 // A number for each column or for each row is held in an array of this length.
 const SIDE: usize = refusal::LARGEST_SIDE as usize;
@@ -122,6 +123,41 @@ pub fn bounds_of(head: Head, map: &[u8]) -> Bounds
         row: down.first,
         width: across.number,
         height: down.number,
+    }
+}
+
+// ---- a box copied
+
+// As many bytes of a map from a place on, to another map from a place on.
+fn copy_line(src: &[u8], from: usize, dst: &mut [u8], to: usize, count: usize)
+    requires { ⌜ (from + count ≤ length (now src)) × (to + count ≤ length (now dst)) ⌝ }
+    ensures { λ _. ⌜ Filled (λ n. getD (now (src .entry)) (from + (n - to)) 0) to (to + count) (now (dst .entry)) (now (dst .exit)) ⌝ }
+{
+    let end = to + count;
+    let mut n = to;
+    while n < end {
+        dst[n] = src[from + (n - to)];
+        n += 1;
+    }
+}
+
+// Copies a box of a map with rows of `width` bytes to the start of another map, row after row; what lies past them there stays.
+pub fn copy_box(width: usize, b: Bounds, src: &[u8], dst: &mut [u8])
+    requires { ⌜ Copyable width b (now src) (now dst) ⌝ }
+    ensures { λ _. ⌜ Copied width b (now (src .entry)) (now (dst .entry)) (now (dst .exit)) ⌝ }
+{
+    let left = b.column;
+    let top = b.row;
+    let count = b.width;
+    let height = b.height;
+    if count == width {
+        copy_line(src, top * width, dst, 0, height * width);
+        return;
+    }
+    let mut y = 0;
+    while y < height {
+        copy_line(src, (y + top) * width + left, dst, y * count, count);
+        y += 1;
     }
 }
 

@@ -18,27 +18,28 @@ use Rattle.geometry.specs.Plate.{On, area, at}
 use Rattle.theory.specs.Erosion.{erosion}
 use Rattle.theory.specs.Listing.{listing}
 use Rattle.theory.proofs.Plate.{on-or-off, at-cell}
-use Rattle.theory.proofs.Erosion.{erosion-off, erosion-zero}
+use Rattle.theory.proofs.Erosion.{erosion-off}
 use Rattle.theory.proofs.Lists.{gather-same}
 use Rattle.refusal.specs.Refusals.{largestSide, largestErosion}
 use Rattle.refusal.specs.Sides.{Sides}
-use Rattle.buffers.specs.Fill.{Filled, PlateOnly}
+use Rattle.buffers.specs.Fill.{PlateOnly}
 use Rattle.bounding_box.specs.declared.Bounds.{Bounds}
-use Rattle.bounding_box.specs.Boxes.{Within, BareOutside, Cropped}
-use Rattle.erosion_series.proofs.Pairs.{kept-none, kept-more, kept-copy, held-start}
+use Rattle.bounding_box.specs.Boxes.{Within, BareOutside, Copied, Copyable}
+use Rattle.bounding_box.proofs.Boxing.{within-croppable}
+use Rattle.erosion_series.proofs.Pairs.{kept-more}
 use Rattle.residue_series.specs.declared.Stand.{Stand}
 use Rattle.residue_series.specs.declared.Run.{Run}
 use Rattle.residue_series.specs.Plunges.{listedReach, soFar, plungeAt, onMark, marksTo}
-use Rattle.residue_series.specs.Stands.{Midway, Level, listedTo, left, leftAt, runListed, Started, Taken, TakenOf}
+use Rattle.residue_series.specs.Stands.{Bare, Due, Midway, Level, listedTo, left, leftAt, runListed, Started, Taken, TakenOf}
 use Rattle.residue_series.proofs.Plunges.{erosion-north, row-above, so-far-next}
 use Rattle.residue_series.proofs.Stands.{standing-rest}
 use Rattle.climb.specs.declared.Region.{Region}
 use Rattle.climb.specs.declared.Climb.{Climb}
 use Rattle.climb.specs.declared.Found.{Found}
 use Rattle.climb.specs.Regions.{moved, RegionOf}
-use Rattle.climb.specs.Climbs.{plungeOf, foundPlunges, FoundMarks, RegionIn, listedWith, Climbing, leftOf, Settleable, CroppedRegion}
-use Rattle.climb.specs.Climbs.{Settled, Begun, Turnable, Turning, StepOf, Narrowed, Stepped}
-use Rattle.climb.proofs.Regions.{gather-map, region-reaches, region-listing, region-later, region-whole, region-cropped}
+use Rattle.climb.specs.Climbs.{plungeOf, foundPlunges, FoundMarks, RegionIn, listedWith, Climbing, leftOf}
+use Rattle.climb.specs.Climbs.{OnPlates, partIn, RegionPart, Settleable, Settled, Begun, Turnable, Turning, StepOf, Narrowed, Stepped}
+use Rattle.climb.proofs.Regions.{gather-map, region-erosion, region-reaches, region-listing, region-later, region-whole, region-cropped}
 
 -- only the bytes of a smaller plate are others
 pub plate-only : (p p′ : Head) (old new : List ℕ) → area p′ ≤ area p → PlateOnly p′ old new → PlateOnly p old new
@@ -51,21 +52,16 @@ region-area p m k dx dy p′ m′ r =
     let b : p′ .width ≤ p .width = let h = r .wide in omega arith in
     mul-le-mul a b
 
--- ---- a region settled on
+-- ---- the part of a region that is not bare, and a climb that begins on it
 
--- the part of a region that is not bare
-pub crops : (r : Region) (a a′ b : List ℕ) (x : Bounds) (asks : Settleable r a b) → Within (r .head) x → BareOutside (r .head) x a
-    → Cropped (r .head .width) x a a′ → CroppedRegion r a a′ (record {
-      head = record { kind = r .head .kind; width = x .width; height = x .height };
-      column = r .column + x .column;
-      row = r .row + x .row;
-      erosion = r .erosion;
-    })
-crops r a a′ b x asks w bare c =
+-- the part in a box outside of which the region is bare
+pub parts : (r : Region) (src a a′ : List ℕ) (x : Bounds) → OnPlates r → Within (r .head) x → BareOutside (r .head) x src
+    → Copied (r .head .width) x src a a′ → RegionPart r src a a′ (partIn r x)
+parts r src a a′ x on w bare c =
     let across = w .across in
     let down = w .down in
-    let narrow = asks .sides .narrow in
-    let low = asks .sides .low in
+    let narrow = on .sides .narrow in
+    let low = on .sides .low in
     let h : x .height ≤ r .head .height = omega arith in
     let v : x .width ≤ r .head .width = omega arith in
     let s : x .height * x .width ≤ area (r .head) = mul-le-mul h v in
@@ -74,50 +70,82 @@ crops r a a′ b x asks w bare c =
       smaller = s;
       same = refl;
       only = record { same = c .same; surplus = λ n h. c .surplus n (omega arith) };
-      part = λ p m i. region-cropped p m (r .erosion) (r .column) (r .row) (r .head) a i (x .column) (x .row) _ a′ refl (w .across) (w .down)
+      part = λ p m i. region-cropped p m (r .erosion) (r .column) (r .row) (r .head) src i (x .column) (x .row) _ a′ refl (w .across) (w .down)
           (bare .west) (bare .east) (bare .north) (bare .south) (c .holds);
     }
 
--- a climb that begins on it
-pub settles : (plate : Head) (r r′ : Region) (limit : ℕ) (a a′ b b′ : List ℕ) (s : Stand) → Settleable r a b → CroppedRegion r a a′ r′
-    → limit ≡ largestErosion - r′ .erosion → Started (r′ .head) limit a′ b b′ s
-    → Settled plate r a a′ b b′ (record { plate = plate; region = r′; stand = s })
-settles plate r r′ limit a a′ b b′ s asks c is t =
+-- a box of a region fits another buffer
+pub part-copyable : (p : Head) (x : Bounds) (src a : List ℕ) → Sides p → Within p x → area p ≤ length src → area p ≤ length a → Copyable (p .width) x src a
+part-copyable p x src a sides w long room =
+    let across = w .across in
+    let down = w .down in
+    let h : x .height ≤ p .height = omega arith in
+    let v : x .width ≤ p .width = omega arith in
+    record { box = within-croppable p x src sides w long; room = omega (arith, mul-le-mul h v, room) }
+
+-- a climb can begin on the part
+pub part-settleable : (r r′ : Region) (src a a′ b : List ℕ) → RegionPart r src a a′ r′ → r .erosion < largestErosion → area (r .head) ≤ length a
+    → area (r .head) ≤ length b → Settleable r′ a′ b
+part-settleable r r′ src a a′ b c some first second =
     record {
-      first = c .only;
-      second = plate-only (r .head) (r′ .head) b b′ (c .smaller) (t .kept);
-      climbs = λ p m e sides i. record {
+      sides = c .sides;
+      some = omega (arith, some, c .same);
+      first = omega (arith, first, c .smaller, c .only .same);
+      second = omega (arith, second, c .smaller);
+    }
+
+-- a climb that begins
+pub settles : (plate : Head) (r : Region) (limit : ℕ) (a b b′ : List ℕ) (s : Stand) → Settleable r a b → limit ≡ largestErosion - r .erosion
+    → Started (r .head) limit a b b′ s → Settled plate r a b b′ (record { plate = plate; region = r; stand = s })
+settles plate r limit a b b′ s asks is t =
+    record {
+      second = t .kept;
+      climbs = λ p m e sides due i. record {
         plate = e;
         sides = sides;
-        relief = a′;
-        region = c .part p m i;
-        limit = omega (arith, asks .some, c .same, t .first .0);
+        relief = a;
+        region = i;
+        due = due;
+        limit = omega (arith, asks .some, t .first .0);
         stands = λ e. t .stands;
         listed = sym (
-            ap (λ l. gather (r′ .erosion) 0 (listedReach p m) ++ map (moved (r′ .erosion) (r′ .column) (r′ .row)) l) (t .listed)
-            ∙ append-nil (gather (r′ .erosion) 0 (listedReach p m))
-            ∙ ap (λ (k : ℕ). gather k 0 (listedReach p m)) (c .same)
+            ap (λ l. gather (r .erosion) 0 (listedReach p m) ++ map (moved (r .erosion) (r .column) (r .row)) l) (t .listed)
+            ∙ append-nil (gather (r .erosion) 0 (listedReach p m))
             );
       };
       left = λ places. fresh places;
     }
   where
-    fresh : (places : ℕ) → left places (r′ .head) s ≤ (largestErosion - r .erosion) * (places + 1)
+    fresh : (places : ℕ) → left places (r .head) s ≤ (largestErosion - r .erosion) * (places + 1)
     fresh places =
-        let l : s .limit + 1 - s .number ≡ largestErosion - r .erosion = omega (arith, t .first .0, t .first .1, c .same) in
-        subst (λ (e : Bool). cond e (leftAt places (r′ .head) (s .limit) (s .number) (s .place)) 0 ≤ (largestErosion - r .erosion) * (places + 1))
+        let l : s .limit + 1 - s .number ≡ largestErosion - r .erosion = omega (arith, t .first .0, t .first .1) in
+        subst (λ (e : Bool). cond e (leftAt places (r .head) (s .limit) (s .number) (s .place)) 0 ≤ (largestErosion - r .erosion) * (places + 1))
         (sym (t .first .3)) (omega (arith, ap (λ (k : ℕ). k * (places + 1)) l))
+
+-- a climb that begins on a region's part climbs on from the region
+module _ (plate : Head) (r r′ : Region) (src a a′ b b′ : List ℕ) (c : Climb) (part : RegionPart r src a a′ r′) (s : Settled plate r′ a′ b b′ c) where
+  pub part-second : PlateOnly (r .head) b b′
+  part-second = plate-only (r .head) (r′ .head) b b′ (part .smaller) (s .second)
+
+  pub part-climbs : (p : Head) (m : List ℕ) → plate ≡ p → Sides p → Due p m (r .erosion + 1) → RegionIn p m r src
+      → Climbing p m c a′ b′ (gather (r .erosion) 0 (listedReach p m))
+  part-climbs p m e sides due i =
+      subst (λ (k : ℕ). Climbing p m c a′ b′ (gather k 0 (listedReach p m))) (part .same)
+      (s .climbs p m e sides (subst (λ (k : ℕ). Due p m (k + 1)) (sym (part .same)) due) (part .part p m i))
+
+  pub part-left : (places : ℕ) → left places (c .region .head) (c .stand) ≤ (largestErosion - r .erosion) * (places + 1)
+  part-left places =
+      subst (λ (k : ℕ). left places (c .region .head) (c .stand) ≤ (largestErosion - k) * (places + 1)) (part .same) (s .left places)
 
 -- ---- a climb before its first run
 
-pub begins : (p : Head) (m a₀ a a′ b b′ : List ℕ) (c : Climb) → Sides p → area p ≤ length m → area p ≤ length a₀
-    → Filled (λ n. getD m n 0) 0 (area p) a₀ a → Settled p (record { head = p; column = 0; row = 0; erosion = 0 }) a a′ b b′ c
-    → Begun p m a₀ a′ b b′ c
-begins p m a₀ a a′ b b′ c sides long room f s =
+pub begins : (p : Head) (m a a′ b b′ : List ℕ) (r′ : Region) (c : Climb) → Sides p
+    → RegionPart (record { head = p; column = 0; row = 0; erosion = 0 }) m a a′ r′ → Settled p r′ a′ b b′ c → Begun p m a a′ b b′ c
+begins p m a a′ b b′ r′ c sides part s =
     record {
-      first = kept-more p a₀ a a′ (kept-copy p _ a₀ a f) (s .first);
-      second = s .second;
-      climbs = s .climbs p m refl sides (region-whole p m a (λ o. held-start p m a₀ a long room f .holds o ∙ erosion-zero p m o));
+      first = part .only;
+      second = part-second p _ r′ m a a′ b b′ c part s;
+      climbs = part-climbs p _ r′ m a a′ b b′ c part s p m refl sides (λ l. absurd (omega arith)) (region-whole p m m (λ o. refl));
     }
 
 -- ---- a residue's first place as a new beginning
@@ -146,6 +174,21 @@ module _ (p : Head) (m : List ℕ) (c : Climb) (a b : List ℕ) (done : List Plu
       let last = g .stands e .level .last in
       let limit = g .limit in
       (omega arith, omega arith)
+
+  -- a climb goes on only to a residue that is due: it ends at the first rung without depth
+  pub climbing-due : c .stand .more ≡ true → Due p m (c .region .erosion + k)
+  climbing-due e l z = go (decLe 2 k)
+    where
+      some : 1 ≤ k
+      some = climbing-numbers e .0
+
+      go : Dec (2 ≤ k) → ⊥
+      go (yes h) =
+          let i : c .region .erosion + k - 1 ≡ c .region .erosion + (k - 1) = omega arith in
+          g .stands e .due h (λ o. region-erosion p m _ _ _ _ (g .relief) (g .region) (k - 1) o ∙ subst (Bare p m) i z _)
+      go (no h) =
+          let i : k ≡ 1 = omega (arith, some) in
+          g .due (omega arith) (subst (λ (j : ℕ). Bare p m (c .region .erosion + j - 1)) i z)
 
   pub climbing-turnable : Turnable c
   climbing-turnable =
@@ -203,24 +246,25 @@ module _ (p : Head) (m : List ℕ) (c : Climb) (a b : List ℕ) (done : List Plu
         ∙ ap (listedWith p m (c .region)) (so-far-next (c .region .head) (g .relief) (level .sides .wide) (k - 1) (omega (arith, level .first, last)))
         ∙ sym (region-reaches p m _ _ _ _ (g .relief) (g .region) (k - 1))
 
-    pub turn-asks : Settleable (record {
+    pub turn-on : (e : ℕ) → OnPlates (record { head = c .region .head; column = c .region .column; row = c .region .row; erosion = e })
+    turn-on e = record { sides = level .sides; across = climbing-across; down = climbing-down }
+
+    pub turn-room : area (c .region .head) ≤ length a
+    turn-room = midway .long
+
+    pub turn-asks : (e : ℕ) (a′ : List ℕ) (r′ : Region) → e < largestErosion → RegionPart (record {
       head = c .region .head;
       column = c .region .column;
       row = c .region .row;
-      erosion = c .region .erosion + (k - 1);
-    }) a b
-    turn-asks =
+      erosion = e;
+    }) a a a′ r′ → Settleable r′ a′ b
+    turn-asks e a′ r′ some part = part-settleable _ r′ a a a′ b part some (midway .long) (midway .held .long)
+
+    turn-due : Due p m (c .region .erosion + (k - 1) + 1)
+    turn-due =
         let some = level .some in
-        let last = level .last in
-        let limit = g .limit in
-        record {
-          sides = level .sides;
-          across = climbing-across;
-          down = climbing-down;
-          some = omega arith;
-          first = midway .long;
-          second = midway .held .long;
-        }
+        let e : c .region .erosion + k ≡ c .region .erosion + (k - 1) + 1 = omega arith in
+        subst (Due p m) e (climbing-due (t .more))
 
     -- what is left is the same
     turn-left : (places : ℕ) → (largestErosion - (c .region .erosion + (k - 1))) * (places + 1) ≤ left places (c .region .head) (c .stand)
@@ -233,25 +277,23 @@ module _ (p : Head) (m : List ℕ) (c : Climb) (a b : List ℕ) (done : List Plu
         ≤ cond e (leftAt places (c .region .head) (c .stand .limit) k (c .stand .place)) 0)
         (sym (t .more)) (omega (arith, ap (λ (n : ℕ). n * (places + 1)) e, t .first))
 
-    module _ (a′ b′ : List ℕ) (c′ : Climb) (s : Settled (c .plate) (record {
+    module _ (a′ b′ : List ℕ) (r′ : Region) (c′ : Climb) (part : RegionPart (record {
       head = c .region .head;
       column = c .region .column;
       row = c .region .row;
       erosion = c .region .erosion + (k - 1);
-    }) a a′ b b′ c′) where
+    }) a a a′ r′) (s : Settled (c .plate) r′ a′ b b′ c′) where
       pub turn-step : StepOf p m a a′ b b′ c′ done
       turn-step =
           record {
-            first = plate-only p _ a a′ climbing-area (s .first);
-            second = plate-only p _ b b′ climbing-area (s .second);
-            climbs = subst (Climbing p m c′ a′ b′) (sym turn-listed) (s .climbs p m (g .plate) (g .sides) turn-region);
+            first = plate-only p _ a a′ climbing-area (part .only);
+            second = plate-only p _ b b′ climbing-area (part-second (c .plate) _ r′ a a a′ b b′ c′ part s);
+            climbs = subst (Climbing p m c′ a′ b′) (sym turn-listed)
+                (part-climbs (c .plate) _ r′ a a a′ b b′ c′ part s p m (g .plate) (g .sides) turn-due turn-region);
           }
 
       pub turn-less : leftOf p c′ ≤ leftOf p c
-      turn-less = omega (arith, s .left (area p), turn-left (area p))
-
-  pub same-step : StepOf p m a a b b c done
-  same-step = record { first = kept-none p a; second = kept-none p b; climbs = g }
+      turn-less = omega (arith, part-left (c .plate) _ r′ a a a′ b b′ c′ part s (area p), turn-left (area p))
 
 -- ---- one run more
 
@@ -314,6 +356,7 @@ module _ (c : Climb) (a a′ b b′ marks′ : List ℕ) (run : Run) (reach : Re
             sides = g .sides;
             relief = g .relief;
             region = g .region;
+            due = g .due;
             limit = omega arith;
             stands = of .stands;
             listed = run-joined;

@@ -11,9 +11,10 @@ use Rattle.geometry.specs.Plate.{area}
 use Rattle.refusal.specs.Refusals.{largestSide, largestErosion}
 use Rattle.refusal.specs.Sides.{Sides}
 use Rattle.buffers.specs.Fill.{PlateOnly}
+use Rattle.bounding_box.specs.declared.Bounds.{Bounds}
 use Rattle.residue_marks.specs.Marks.{markPlaces}
 use Rattle.residue_series.specs.Plunges.{listedReach, marksTo}
-use Rattle.residue_series.specs.Stands.{Standing, listedTo, left}
+use Rattle.residue_series.specs.Stands.{Due, Standing, listedTo, left}
 use Rattle.climb.specs.declared.Region.{Region}
 use Rattle.climb.specs.declared.Climb.{Climb}
 use Rattle.climb.specs.declared.Found.{Found}
@@ -57,12 +58,13 @@ RegionIn p m r m′ = RegionOf p m (r .erosion) (r .column) (r .row) (r .head) m
 abbrev pub listedWith : Head → List ℕ → Region → List Plunge → List Plunge
 listedWith p m r qs = gather (r .erosion) 0 (listedReach p m) ++ map (moved (r .erosion) (r .column) (r .row)) qs
 
--- a climb of relief m of plate p that has listed the plunges `done`
+-- a climb of relief m of plate p that has listed the plunges `done`, on a region whose next residue is due
 pub record Climbing (p : Head) (m : List ℕ) (c : Climb) (a b : List ℕ) (done : List Plunge) : Type 0 where
   pub plate : c .plate ≡ p
   pub sides : Sides p
   pub relief : List ℕ
   pub region : RegionIn p m (c .region) relief
+  pub due : Due p m (c .region .erosion + 1)
   pub limit : c .stand .limit + c .region .erosion ≡ largestErosion
   pub stands : c .stand .more ≡ true → Standing (c .region .head) relief (c .stand) a b
   pub listed : done ≡ listedWith p m (c .region) (listedTo (c .region .head) relief (c .stand))
@@ -71,30 +73,44 @@ pub record Climbing (p : Head) (m : List ℕ) (c : Climb) (a b : List ℕ) (done
 abbrev pub leftOf : Head → Climb → ℕ
 leftOf p c = left (area p) (c .region .head) (c .stand)
 
--- ---- a region cropped, and settled on
+-- ---- the part of a region that is not bare, and a climb that begins on it
 
--- a region of fitting sides, its erosion in one buffer, and another buffer
-pub record Settleable (r : Region) (a b : List ℕ) : Type 0 where
+-- a region of fitting sides that lies on a plate of fitting sides
+pub record OnPlates (r : Region) : Type 0 where
   pub sides : Sides (r .head)
   pub across : r .column + r .head .width ≤ largestSide
   pub down : r .row + r .head .height ≤ largestSide
-  pub some : r .erosion < largestErosion
-  pub first : area (r .head) ≤ length a
-  pub second : area (r .head) ≤ length b
 
--- the region in it that is not bare
-pub record CroppedRegion (r : Region) (a a′ : List ℕ) (r′ : Region) : Type 0 where
+-- the part of a region in a box of it
+abbrev pub partIn : Region → Bounds → Region
+partIn r x =
+    record {
+      head = record { kind = r .head .kind; width = x .width; height = x .height };
+      column = r .column + x .column;
+      row = r .row + x .row;
+      erosion = r .erosion;
+    }
+
+-- r′ is the part of region r that is not bare: its erosion, which stands in one buffer, stands cropped at the front of another
+pub record RegionPart (r : Region) (src a a′ : List ℕ) (r′ : Region) : Type 0 where
   pub sides : Sides (r′ .head)
   pub smaller : area (r′ .head) ≤ area (r .head)
   pub same : r′ .erosion ≡ r .erosion
   pub only : PlateOnly (r .head) a a′
-  pub part : (p : Head) (m : List ℕ) → RegionIn p m r a → RegionIn p m r′ a′
+  pub part : (p : Head) (m : List ℕ) → RegionIn p m r src → RegionIn p m r′ a′
+
+-- a region, its erosion in one buffer, and another buffer
+pub record Settleable (r : Region) (a b : List ℕ) : Type 0 where
+  pub sides : Sides (r .head)
+  pub some : r .erosion < largestErosion
+  pub first : area (r .head) ≤ length a
+  pub second : area (r .head) ≤ length b
 
 -- a climb that begins on it
-pub record Settled (plate : Head) (r : Region) (a a′ b b′ : List ℕ) (c : Climb) : Type 0 where
-  pub first : PlateOnly (r .head) a a′
+pub record Settled (plate : Head) (r : Region) (a b b′ : List ℕ) (c : Climb) : Type 0 where
   pub second : PlateOnly (r .head) b b′
-  pub climbs : (p : Head) (m : List ℕ) → plate ≡ p → Sides p → RegionIn p m r a → Climbing p m c a′ b′ (gather (r .erosion) 0 (listedReach p m))
+  pub climbs : (p : Head) (m : List ℕ) → plate ≡ p → Sides p → Due p m (r .erosion + 1) → RegionIn p m r a
+      → Climbing p m c a b′ (gather (r .erosion) 0 (listedReach p m))
   pub left : (places : ℕ) → left places (c .region .head) (c .stand) ≤ (largestErosion - r .erosion) * (places + 1)
 
 -- ---- the steps of a climb

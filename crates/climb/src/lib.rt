@@ -1,4 +1,5 @@
 // The climb of a relief: residue after residue, in runs of places, each on the region of the plate where its erosion is not bare.
+use bounding_box::Bounds;
 use geometry::Clearance;
 use geometry::Head;
 use geometry::MaybeReach;
@@ -8,10 +9,14 @@ use residue_series::Stand;
 ghost use mathlib.Core.Path.{_≡_};
 ghost use mathlib.Core.Bool.{true};
 ghost use Prim.Native.Nat.{_-_, _≤_};
+ghost use lib.ListN.{length};
+ghost use Rattle.geometry.specs.Plate.{area};
 ghost use Rattle.refusal.specs.Refusals.{largestErosion};
 ghost use Rattle.refusal.specs.Sides.{Sides};
 ghost use Rattle.erosion_series.specs.Pairs.{SeriesBuffers};
-ghost use Rattle.climb.specs.Climbs.{Settleable, CroppedRegion, Settled, Begun, Turnable, Turning, ClimbingSome, Narrowed, Underway, Stepped};
+ghost use Rattle.bounding_box.specs.Boxes.{Within};
+ghost use Rattle.climb.specs.Climbs.{OnPlates, partIn, RegionPart, Settleable, Settled, Begun};
+ghost use Rattle.climb.specs.Climbs.{Turnable, Turning, ClimbingSome, Narrowed, Underway, Stepped};
 
 // A region is taken anew after so many residues, and one more for so many columns: by then bare columns cost about what that costs.
 const RESIDUES: usize = 12;
@@ -59,15 +64,13 @@ fn reach_of(number: usize) -> Reach
     }
 }
 
-// The part of a region that is not bare, brought to the front of its buffer.
-fn crop_region(region: Region, a: &mut [u8]) -> Region
-    requires { ⌜ Settleable region (now a) (now a) ⌝ }
-    ensures { λ r. ⌜ CroppedRegion region (now (a .entry)) (now (a .exit)) r ⌝ }
+// The part of a region that lies in a box of it.
+fn part_in(region: Region, found: Bounds) -> Region
+    requires { ⌜ OnPlates region × Within (region .head) found ⌝ }
+    ensures { λ r. ⌜ r ≡ partIn region found ⌝ }
 {
     let head = region.head;
     let kind = head.kind;
-    let found = bounding_box::bounds_of(head, a);
-    bounding_box::crop(head.width as usize, found, a);
     let width = found.width as u16;
     let height = found.height as u16;
     Region {
@@ -82,17 +85,38 @@ fn crop_region(region: Region, a: &mut [u8]) -> Region
     }
 }
 
-// A climb that begins with a region's erosion, which stands in the first buffer, on the part of it that is not bare.
-fn settle(plate: Head, region: Region, a: &mut [u8], b: &mut [u8]) -> Climb
-    requires { ⌜ Settleable region (now a) (now b) ⌝ }
-    ensures { λ r. ⌜ Settled plate region (now (a .entry)) (now (a .exit)) (now (b .entry)) (now (b .exit)) r ⌝ }
+// The part of a region that is not bare, its erosion copied from one buffer to the front of another.
+fn copy_region(region: Region, map: &[u8], a: &mut [u8]) -> Region
+    requires { ⌜ OnPlates region × (area (region .head) ≤ length (now map)) × (area (region .head) ≤ length (now a)) ⌝ }
+    ensures { λ r. ⌜ RegionPart region (now (map .entry)) (now (a .entry)) (now (a .exit)) r ⌝ }
 {
-    let smaller = crop_region(region, a);
-    let limit = (refusal::LARGEST_EROSION as usize) - smaller.erosion;
-    let stand = residue_series::start(smaller.head, limit, a, b);
+    let head = region.head;
+    let found = bounding_box::bounds_of(head, map);
+    bounding_box::copy_box(head.width as usize, found, map, a);
+    part_in(region, found)
+}
+
+// The part of a region that is not bare, its erosion brought to the front of its buffer.
+fn crop_region(region: Region, a: &mut [u8]) -> Region
+    requires { ⌜ OnPlates region × (area (region .head) ≤ length (now a)) ⌝ }
+    ensures { λ r. ⌜ RegionPart region (now (a .entry)) (now (a .entry)) (now (a .exit)) r ⌝ }
+{
+    let head = region.head;
+    let found = bounding_box::bounds_of(head, a);
+    bounding_box::crop(head.width as usize, found, a);
+    part_in(region, found)
+}
+
+// A climb that begins with a region's erosion, which stands in the first buffer.
+fn settle(plate: Head, region: Region, a: &[u8], b: &mut [u8]) -> Climb
+    requires { ⌜ Settleable region (now a) (now b) ⌝ }
+    ensures { λ r. ⌜ Settled plate region (now (a .entry)) (now (b .entry)) (now (b .exit)) r ⌝ }
+{
+    let limit = (refusal::LARGEST_EROSION as usize) - region.erosion;
+    let stand = residue_series::start(region.head, limit, a, b);
     Climb {
         plate,
-        region: smaller,
+        region,
         stand,
     }
 }
@@ -102,15 +126,14 @@ pub fn begin(head: Head, relief: &[u8], a: &mut [u8], b: &mut [u8]) -> Climb
     requires { ⌜ Sides head × SeriesBuffers head (now relief) (now a) (now b) ⌝ }
     ensures { λ r. ⌜ Begun head (now (relief .entry)) (now (a .entry)) (now (a .exit)) (now (b .entry)) (now (b .exit)) r ⌝ }
 {
-    let cells = (head.height as usize) * (head.width as usize);
-    buffers::copy_run(relief, a, cells);
     let whole = Region {
         head,
         column: 0,
         row: 0,
         erosion: 0,
     };
-    settle(head, whole, a, b)
+    let part = copy_region(whole, relief, a);
+    settle(head, part, a, b)
 }
 
 // Whether a climb takes its region anew: at the first place of an odd residue, after as many as make it worth while.
@@ -153,7 +176,8 @@ fn narrow(climb: Climb, a: &mut [u8], b: &mut [u8]) -> Climb
         row: region.row,
         erosion,
     };
-    settle(plate, here, a, b)
+    let part = crop_region(here, a);
+    settle(plate, part, a, b)
 }
 
 // The next run of a climb. `marks` is left with its marks: the depth of each marked place, 0 at the others.

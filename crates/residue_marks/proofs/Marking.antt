@@ -45,6 +45,7 @@ module _ (low high : ℕ → ℕ) (start : ℕ) (prev marks : List ℕ) where
         marked = filled-none _ 0 marks;
         deep = λ i a. absurd (omega arith);
         under = λ n a b. absurd (omega arith);
+        bare = λ z. refl;
       }
 
   -- one place more
@@ -62,6 +63,12 @@ module _ (low high : ℕ → ℕ) (start : ℕ) (prev marks : List ℕ) where
         marked = filled-more _ 0 i v marks marks′ (s .marked) (omega arith) b is;
         deep = λ j c. marked′ j c (decLe i j);
         under = λ n c d. in-turn n c d (decLe (start + i) n);
+        bare = λ z. omega (
+          arith,
+          z (start + i) (omega arith) (omega arith),
+          getD-set-same prev′ (start + i) l 0 (omega (arith, s .next .same)),
+          s .bare (λ n c d. sym (getD-set-other prev′ (start + i) n l 0 (omega arith)) ∙ z n c (omega arith)),
+        );
       }
     where
       marked′ : (j : ℕ) → j < i + 1 → Dec (i ≤ j) → getD (set marks′ i v) j 0 ≤ u
@@ -89,6 +96,7 @@ sweep-as low high low′ high′ start number prev prev′ marks marks′ deepes
       marked = filled-as _ _ 0 number marks marks′ (s .marked) (λ i a b. same i (omega arith));
       deep = s .deep;
       under = s .under;
+      bare = s .bare;
     }
   where
     same : (i : ℕ) → i < number → marksOf high start prev i ≡ marksOf high′ start prev i

@@ -86,12 +86,14 @@ highNear p m n = highestNear (p .kind) (at p m) (placeCell (p .width) n)
 abbrev pub marksOf : (ℕ → ℕ) → ℕ → List ℕ → ℕ → ℕ
 marksOf high start prev i = markOf (getD prev (start + i) 0) (high (start + i))
 
--- a sweep over some places from one on: the lowest about each is written, none above `top`, and each is marked, none above `deepest`
+-- a sweep over some places from one on: the lowest about each is written, none above `top`, which is 0 where all are, and each is marked, none
+-- above `deepest`
 pub record Sweep (low high : ℕ → ℕ) (start number : ℕ) (prev prev′ marks marks′ : List ℕ) (deepest top : ℕ) : Type 0 where
   pub next : Filled low start (start + number) prev prev′
   pub marked : Filled (marksOf high start prev) 0 number marks marks′
   pub deep : (i : ℕ) → i < number → getD marks′ i 0 ≤ deepest
   pub under : (n : ℕ) → start ≤ n → n < start + number → getD prev′ n 0 ≤ top
+  pub bare : ((n : ℕ) → start ≤ n → n < start + number → getD prev′ n 0 ≡ 0) → top ≡ 0
 
 -- how many marks stand before place n of an array
 abbrev pub tally : List ℕ → ℕ → ℕ

@@ -27,7 +27,7 @@ pub struct Places {
     pub number: usize,
 }
 
-// What a sweep found: a number no lower than any of its marks, and one no lower than any number that it wrote.
+// What a sweep found: a number no lower than any of its marks, and one no lower than any number that it wrote, 0 if all of these are.
 pub struct Swept {
     pub deepest: u8,
     pub top: u8,

@@ -1,3 +1,4 @@
 pub mod Gather
 pub mod Plunges
+pub mod Midways
 pub mod Stands

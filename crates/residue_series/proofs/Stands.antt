@@ -1,251 +1,36 @@
--- Laws of where a series stands: one run more, from one residue to the next, the end, and what the marks of a run stand for.
-use mathlib.Core.Path.{_≡_, refl, sym, ap, ap₂, _∙_, subst, fun-ext}
+-- Laws of where a series stands: before its first run, after a run, at the next residue, at its end; and what is left of the listing.
+use mathlib.Core.Path.{_≡_, refl, sym, ap, _∙_, subst}
 use mathlib.Core.Logic.{_⊎_, inl, inr}
-use mathlib.Core.Bool.{Bool, true, false, true≢false}
-use mathlib.Core.List.{List, [], _∷_, _++_, append-assoc, append-nil}
-use Prim.Native.Nat.{ℕ, zero, suc, _+_, _*_, _-_, _%_, _/_, _≤_, _<_, max}
+use mathlib.Core.Bool.{Bool, true, false, true≢false, cond}
+use mathlib.Core.List.{List, [], _++_, append-assoc, append-nil}
+use Prim.Native.Nat.{ℕ, zero, suc, _+_, _*_, _-_, _≤_, _<_, max}
 use native.Mathlib.Omega.{arith}
 use native.Mathlib.Decide.{decLe}
-use native.Mathlib.Nat.{suc-mul, zero-mul, mul-le-mul, mul-le-mul-right, mod-lt, div-add-mod', div-lt-iff-lt-mul}
-use native.Mathlib.Numerals.{add-one}
-use lib.Arith.{digits-div, digits-mod}
-use lib.Dec.{ltb}
-use mathlib.Core.Bool.{cond}
+use native.Mathlib.Nat.{suc-mul, zero-mul, mul-le-mul, mul-le-mul-right}
+use lib.Arith.{digits-lt}
 use lib.ListN.{length, getD}
 use Rattle.geometry.specs.declared.Head.{Head}
 use Rattle.geometry.specs.declared.Plunge.{Plunge}
 use Rattle.geometry.specs.Lists.{gather}
 use Rattle.geometry.specs.Plane.{Cell, cell}
 use Rattle.geometry.specs.Plate.{On, area, at}
-use Rattle.theory.specs.Erosion.{erosion, highestNear, residue}
-use Rattle.theory.specs.Near.{lowestNear}
+use Rattle.theory.specs.Erosion.{erosion}
 use Rattle.theory.specs.Listing.{listing}
 use Rattle.theory.proofs.Plate.{on-or-off, at-cell}
-use Rattle.theory.proofs.Lists.{gather-same}
-use Rattle.theory.proofs.Erosion.{erosion-zero, erosion-step, erosion-off}
+use Rattle.theory.proofs.Erosion.{erosion-zero, erosion-off}
 use Rattle.refusal.specs.Refusals.{largestSide, largestErosion}
-use Rattle.buffers.specs.Fill.{PlateOnly}
-use Rattle.buffers.specs.Margin.{Margin}
 use Rattle.erosion_step.specs.Steps.{Stepped}
 use Rattle.erosion_series.specs.Pairs.{HoldsErosion}
-use Rattle.erosion_series.proofs.Pairs.{mod-cases, held-margin, held-next, kept-none}
-use Rattle.residue_marks.specs.declared.Places.{Places}
+use Rattle.erosion_series.proofs.Pairs.{held-next}
 use Rattle.residue_marks.specs.declared.Swept.{Swept}
-use Rattle.residue_marks.specs.Marks.{markPlaces, placeCell, lowNear, highNear, marksOf, SweepBuffers, Sweep}
+use Rattle.residue_marks.specs.Marks.{markPlaces}
 use Rattle.residue_series.specs.declared.Stand.{Stand}
-use Rattle.residue_series.specs.Plunges.{listedReach, placeListed, soFar, plungeAt, onMark, marksTo}
-use Rattle.residue_series.specs.Stands.{Midway, PairMidway, Level, Standing, listedTo, PairToSweep, PairSweep}
+use Rattle.residue_series.specs.Plunges.{listedReach, placeListed, soFar}
+use Rattle.residue_series.specs.Stands.{Bare, Due, Tops, Midway, PairMidway, Level, Standing, listedTo, PairSweep}
 use Rattle.residue_series.specs.Stands.{LastResidue, Advanced, Startable, Started, RunEnd, Taken, TakenOf}
-use Rattle.residue_series.proofs.Gather.{gather-from, gather-parts, gather-turn}
-use Rattle.residue_series.proofs.Plunges.{mark-listed, unmarked-none, reach-places, erosion-north, erosion-south, erosion-gone}
-use Rattle.residue_series.proofs.Plunges.{row-above, row-beneath, so-far-more, so-far-level, so-far-next, reaches-end}
-
--- ---- one run
-
--- an erosion is 0 along the border from the first on
-margin-one : (p : Head) (k : ℕ) (s : List ℕ) → 1 ≤ k → Margin p k s → Margin p 1 s
-margin-one p k s h m =
-    record {
-      west = λ x y a b c. m .west x y a b (omega arith);
-      east = λ x y a b c. m .east x y a b (omega arith);
-      north = λ x y a b c. m .north x y a b (omega arith);
-      south = λ x y a b c. m .south x y a b (omega arith);
-    }
-
-module _ (p : Head) (m : List ℕ) (k here n top : ℕ) (prev cur : List ℕ) (mid : Midway p m k here n top prev cur) where
-  abbrev w : ℕ
-  w = p .width
-
-  near-low : (c : Cell) → lowestNear (p .kind) (at p cur) c ≡ erosion p m (k + 1) c
-  near-low c =
-      ap (λ (f : Cell → ℕ). lowestNear (p .kind) f c) (fun-ext (mid .held .holds))
-      ∙ sym (erosion-step p m k c) ∙ ap (λ (j : ℕ). erosion p m j c) (sym (add-one k))
-
-  pub midway-margin : 1 ≤ k → Margin p 1 cur
-  midway-margin h = margin-one p k cur h (held-margin p m k cur (mid .held))
-
-  module _ (number : ℕ) (prev′ marks marks′ : List ℕ) (deepest t : ℕ)
-      (s : Sweep (lowNear p cur) (highNear p cur) n number prev prev′ marks marks′ deepest t) where
-    -- a sweep leads on to the place after it
-    pub midway-sweep : (top′ : ℕ) → top′ ≡ max top t → Midway p m k here (n + number) top′ prev′ cur
-    midway-sweep top′ is =
-        record {
-          held = mid .held;
-          low = mid .low;
-          long = omega (arith, mid .long, s .next .same);
-          ahead = λ x y a b h. written x y a b h (decLe n (y * w + x));
-          behind = λ x y a b h. s .next .over (y * w + x) h ∙ mid .behind x y a b (omega arith);
-          under = λ x y a b h. bounded x y a b h (decLe n (y * w + x));
-        }
-      where
-        cell-is : (x y : ℕ) → x < w → placeCell w (y * w + x) ≡ cell x y
-        cell-is x y a = ap₂ cell (digits-mod y a) (digits-div y a)
-
-        written : (x y : ℕ) → x < w → y < p .height → y * w + x < n + number → Dec (n ≤ y * w + x)
-            → getD prev′ (y * w + x) 0 ≡ erosion p m (k + 1) (cell x y)
-        written x y a b h (yes l) = s .next .inside (y * w + x) l h ∙ ap (lowestNear (p .kind) (at p cur)) (cell-is x y a) ∙ near-low (cell x y)
-        written x y a b h (no l) = s .next .under (y * w + x) (omega arith) ∙ mid .ahead x y a b (omega arith)
-
-        bounded : (x y : ℕ) → x < w → y < p .height → y * w + x < n + number → Dec (n ≤ y * w + x) → getD prev′ (y * w + x) 0 ≤ top′
-        bounded x y a b h (yes l) = omega (arith, s .under (y * w + x) l h)
-        bounded x y a b h (no l) = omega (arith, s .next .under (y * w + x) (omega arith), mid .under x y a b (omega arith))
-
-    module _ (wide : 1 ≤ w) (some : 1 ≤ k) (within : n + number ≤ area p) where
-      -- the mark of a place is its plunge
-      place-mark : (i : ℕ) → i < number → onMark (plungeAt w (k - 1)) (n + i) (marksOf (highNear p cur) n prev i) ≡ placeListed p m (k - 1) (n + i)
-      unfolding residue
-      place-mark i h =
-          mark-listed (plungeAt w (k - 1)) (n + i) (getD prev (n + i) 0) (highNear p cur (n + i))
-          ∙ ap₂ (λ (v d : ℕ). cond (ltb 0 v) (plungeAt w (k - 1) (n + i) d ∷ []) []) (ap₂ (λ (u v : ℕ). u - v) depth high) depth
-        where
-          split : (n + i) / w * w + (n + i) % w ≡ n + i
-          split = div-add-mod' (n + i) w
-
-          depth : getD prev (n + i) 0 ≡ erosion p m (k - 1) (placeCell w (n + i))
-          depth =
-              ap (λ (j : ℕ). getD prev j 0) (sym split)
-              ∙ mid .behind ((n + i) % w) ((n + i) / w) (mod-lt (n + i) wide) (div-lt-iff-lt-mul wide .1 (omega arith)) (omega (arith, split))
-
-          next : k ≡ suc (k - 1)
-          next = omega arith
-
-          high : highNear p cur (n + i) ≡ highestNear (p .kind) (erosion p m (suc (k - 1))) (placeCell w (n + i))
-          high = ap (λ (f : Cell → ℕ). highestNear (p .kind) f (placeCell w (n + i))) (fun-ext (mid .held .holds))
-              ∙ ap (λ (j : ℕ). highestNear (p .kind) (erosion p m j) (placeCell w (n + i))) next
-
-      -- the marks of a run are its plunges, and none where no mark is above 0
-      pub midway-marked : marksTo number (plungeAt w (k - 1)) n marks′ ≡ gather number n (placeListed p m (k - 1))
-      midway-marked =
-          gather-same number 0 _ _
-          (λ i a b. ap (onMark (plungeAt w (k - 1)) (n + i)) (s .marked .inside i a (omega arith)) ∙ place-mark i (omega arith))
-          ∙ sym (gather-from (placeListed p m (k - 1)) number n)
-
-      pub midway-none : deepest ≡ 0 → gather number n (placeListed p m (k - 1)) ≡ []
-      midway-none z = sym midway-marked ∙ unmarked-none (plungeAt w (k - 1)) n number marks′ (λ i h. omega (arith, s .deep i h))
-
-  -- after the last rows that a residue can mark, its turn is over: the buffers stand for the next
-  module _ (some : 1 ≤ k) (last : area p ≤ n + (k - 1) * w) where
-    all-next : (x y : ℕ) → x < w → y < p .height → Dec (n ≤ y * w + x)
-        → (getD prev (y * w + x) 0 ≡ erosion p m (k + 1) (cell x y)) × (erosion p m (k + 1) (cell x y) ≤ top)
-    all-next x y a b (no l) = let e = mid .ahead x y a b (omega arith) in (e, omega (arith, mid .under x y a b (omega arith)))
-    all-next x y a b (yes l) =
-        let r : p .height ≤ y + (k - 1) = row-beneath w (k - 1) (p .height) x y a (omega arith) in
-        let z : erosion p m (k + 1) (cell x y) ≡ 0 = erosion-south p m (k + 1) x y a b (omega arith) in
-        (mid .behind x y a b l ∙ erosion-south p m (k - 1) x y a b r ∙ sym z, omega arith)
-
-    pub midway-next : Midway p m (k + 1) top (k * w) 0 cur prev
-    midway-next =
-        record {
-          held = record { long = mid .long; holds = λ c. held c (on-or-off p c) };
-          low = λ c. low c (on-or-off p c);
-          long = mid .held .long;
-          ahead = λ x y a b h. zero′ x y a b h ∙ sym (erosion-north p m (k + 1 + 1) x y (omega (arith, row-above w k x y h)));
-          behind = λ x y a b h. sym (at-cell p cur x y a b) ∙ mid .held .holds (cell x y) ∙ ap (λ (j : ℕ). erosion p m j (cell x y)) back;
-          under = λ x y a b h. omega (arith, zero′ x y a b h);
-        }
-      where
-        back : k ≡ k + 1 - 1
-        back = omega arith
-
-        zero′ : (x y : ℕ) → x < w → y < p .height → y * w + x < k * w → getD cur (y * w + x) 0 ≡ 0
-        zero′ x y a b h = sym (at-cell p cur x y a b) ∙ mid .held .holds (cell x y) ∙ erosion-north p m k x y (row-above w k x y h)
-
-        held : (c : Cell) → On p c ⊎ ((l : List ℕ) → at p l c ≡ 0) → at p prev c ≡ erosion p m (k + 1) c
-        held c (inl o) =
-            subst (λ d. at p prev d ≡ erosion p m (k + 1) d) (sym (o .is))
-            (at-cell p prev (o .column) (o .row) (o .left) (o .upper)
-            ∙ all-next (o .column) (o .row) (o .left) (o .upper) (decLe n (o .row * w + o .column)) .0)
-        held c (inr z) = z prev ∙ sym (erosion-off p m (k + 1) c z)
-
-        low : (c : Cell) → On p c ⊎ ((l : List ℕ) → at p l c ≡ 0) → erosion p m (k + 1) c ≤ top
-        low c (inl o) =
-            subst (λ d. erosion p m (k + 1) d ≤ top) (sym (o .is))
-            (all-next (o .column) (o .row) (o .left) (o .upper) (decLe n (o .row * w + o .column)) .1)
-        low c (inr z) = omega (arith, erosion-off p m (k + 1) c z)
-
--- ---- the pair
-
-module _ (p : Head) (m : List ℕ) (k here n top : ℕ) (a b : List ℕ) (q : PairMidway p m k here n top a b) where
-  -- what a sweep asks
-  pub pair-to-sweep : (s : Places) (marks : List ℕ) → 1 ≤ k → 1 ≤ p .width → s .start + s .number ≤ area p → s .number < markPlaces
-      → length marks ≡ markPlaces → PairToSweep p k s a b marks
-  pair-to-sweep s marks some wide within short size =
-      record {
-        even = λ e. (buffers b a (q .even e), midway-margin p m k here n top b a (q .even e) some);
-        odd = λ e. (buffers a b (q .odd e), midway-margin p m k here n top a b (q .odd e) some);
-      }
-    where
-      buffers : (prev cur : List ℕ) → Midway p m k here n top prev cur → SweepBuffers p s prev cur marks
-      buffers prev cur i = record { wide = wide; within = within; short = short; before = i .long; after = i .held .long; size = size }
-
-  module _ (s : Places) (a′ b′ marks marks′ : List ℕ) (r : Swept) (e : PairSweep p k s a a′ b b′ marks marks′ r) (at-place : s .start ≡ n) where
-    pub pair-swept : (top′ : ℕ) → top′ ≡ max top (r .top) → PairMidway p m k here (n + s .number) top′ a′ b′
-    pair-swept top′ is =
-        record {
-          even = λ f. subst (λ (l : List ℕ). Midway p m k here (n + s .number) top′ b′ l) (sym (e .even f .0))
-              (midway-sweep p m k here n top b a (q .even f) (s .number) b′ marks marks′ (r .deepest) (r .top)
-              (subst (λ (j : ℕ). Sweep (lowNear p a) (highNear p a) j (s .number) b b′ marks marks′ (r .deepest) (r .top)) at-place (e .even f .1)) top′ is);
-          odd = λ f. subst (λ (l : List ℕ). Midway p m k here (n + s .number) top′ a′ l) (sym (e .odd f .0))
-              (midway-sweep p m k here n top a b (q .odd f) (s .number) a′ marks marks′ (r .deepest) (r .top)
-              (subst (λ (j : ℕ). Sweep (lowNear p b) (highNear p b) j (s .number) a a′ marks marks′ (r .deepest) (r .top)) at-place (e .odd f .1)) top′ is);
-        }
-
-    pub pair-marked : 1 ≤ p .width → 1 ≤ k → n + s .number ≤ area p
-        → (marksTo (s .number) (plungeAt (p .width) (k - 1)) n marks′ ≡ gather (s .number) n (placeListed p m (k - 1)))
-        × (r .deepest ≡ 0 → gather (s .number) n (placeListed p m (k - 1)) ≡ [])
-    pair-marked wide some within = go (mod-cases k)
-      where
-        go : (k % 2 ≡ 0) ⊎ (k % 2 ≡ 1)
-            → (marksTo (s .number) (plungeAt (p .width) (k - 1)) n marks′ ≡ gather (s .number) n (placeListed p m (k - 1)))
-            × (r .deepest ≡ 0 → gather (s .number) n (placeListed p m (k - 1)) ≡ [])
-        go (inl f) =
-            let t = subst (λ (j : ℕ). Sweep (lowNear p a) (highNear p a) j (s .number) b b′ marks marks′ (r .deepest) (r .top)) at-place (e .even f .1) in (
-              midway-marked p m k here n top b a (q .even f) (s .number) b′ marks marks′ (r .deepest) (r .top) t wide some within,
-              midway-none p m k here n top b a (q .even f) (s .number) b′ marks marks′ (r .deepest) (r .top) t wide some within,
-            )
-        go (inr f) =
-            let t = subst (λ (j : ℕ). Sweep (lowNear p b) (highNear p b) j (s .number) a a′ marks marks′ (r .deepest) (r .top)) at-place (e .odd f .1) in (
-              midway-marked p m k here n top a b (q .odd f) (s .number) a′ marks marks′ (r .deepest) (r .top) t wide some within,
-              midway-none p m k here n top a b (q .odd f) (s .number) a′ marks marks′ (r .deepest) (r .top) t wide some within,
-            )
-
-  pub pair-next : 1 ≤ k → area p ≤ n + (k - 1) * p .width → PairMidway p m (k + 1) top (k * p .width) 0 a b
-  pair-next some last =
-      record {
-        even = λ f. midway-next p m k here n top a b (q .odd (omega arith)) some last;
-        odd = λ f. midway-next p m k here n top b a (q .even (omega arith)) some last;
-      }
-
-  -- an erosion with nothing above 0
-  pub pair-zero : here ≡ 0 → (c : Cell) → erosion p m k c ≡ 0
-  pair-zero z c = go (mod-cases k)
-    where
-      go : (k % 2 ≡ 0) ⊎ (k % 2 ≡ 1) → erosion p m k c ≡ 0
-      go (inl f) = omega (arith, q .even f .low c)
-      go (inr f) = omega (arith, q .odd f .low c)
-
--- what a sweep of the pair leaves of its buffers and marks
-module _ (p : Head) (k : ℕ) (s : Places) (a a′ b b′ marks marks′ : List ℕ) (r : Swept) (e : PairSweep p k s a a′ b b′ marks marks′ r) where
-  pub swept-first : s .start + s .number ≤ area p → PlateOnly p a a′
-  swept-first h = go (mod-cases k)
-    where
-      go : (k % 2 ≡ 0) ⊎ (k % 2 ≡ 1) → PlateOnly p a a′
-      go (inl f) = subst (PlateOnly p a) (sym (e .even f .0)) (kept-none p a)
-      go (inr f) = record { same = e .odd f .1 .next .same; surplus = λ n g. e .odd f .1 .next .over n (omega arith) }
-
-  pub swept-second : s .start + s .number ≤ area p → PlateOnly p b b′
-  swept-second h = go (mod-cases k)
-    where
-      go : (k % 2 ≡ 0) ⊎ (k % 2 ≡ 1) → PlateOnly p b b′
-      go (inl f) = record { same = e .even f .1 .next .same; surplus = λ n g. e .even f .1 .next .over n (omega arith) }
-      go (inr f) = subst (PlateOnly p b) (sym (e .odd f .0)) (kept-none p b)
-
-  pub swept-marks : length marks′ ≡ length marks
-  swept-marks = go (mod-cases k)
-    where
-      go : (k % 2 ≡ 0) ⊎ (k % 2 ≡ 1) → length marks′ ≡ length marks
-      go (inl f) = e .even f .1 .marked .same
-      go (inr f) = e .odd f .1 .marked .same
+use Rattle.residue_series.proofs.Gather.{gather-parts, gather-turn}
+use Rattle.residue_series.proofs.Plunges.{reach-places, erosion-gone, so-far-more, so-far-level, so-far-next, reaches-end}
+use Rattle.residue_series.proofs.Midways.{at-place, pair-swept, pair-marked, pair-next, pair-zero, pair-deep, swept-first, swept-second, swept-marks}
 
 -- ---- where a series stands after a run
 
@@ -283,8 +68,8 @@ module _ (p : Head) (s : Stand) where
           goes-on = λ t. absurd (true≢false t);
         }
 
-    pub not-last : (s .number ≡ s .limit → ⊥) → s .number * p .width + s .number * p .width < area p → LastResidue p s false
-    not-last e h = record { ends = λ t. absurd (true≢false (sym t)); goes-on = λ t. (let l = level .last in omega (arith, e), h) }
+    pub not-last : (s .number ≡ s .limit → ⊥) → (s .here ≡ 0 → ⊥) → s .number * p .width + s .number * p .width < area p → LastResidue p s false
+    not-last e d h = record { ends = λ t. absurd (true≢false (sym t)); goes-on = λ t. (let l = level .last in omega (arith, e), h, d) }
 
 -- the products of a place's level are small
 pub level-small : (p : Head) (limit k n : ℕ) → Level p limit k n
@@ -297,9 +82,9 @@ level-small p limit k n l =
 
 module _ (p : Head) (limit k here n : ℕ) (from : ℕ) (level : Level p limit k from) (on : from ≤ n) (top : ℕ) where
   -- at the same residue
-  pub stays : n + k * p .width < area p + p .width → (m a b : List ℕ) → PairMidway p m k here n top a b
+  pub stays : n + k * p .width < area p + p .width → (m a b : List ℕ) → Due p m k → PairMidway p m k here n top a b
       → Advanced p m limit k n a b (record { limit = limit; number = k; here = here; place = n; top = top; more = true })
-  stays h m a b q =
+  stays h m a b due q =
       let e = width-more p k (level .some) in
       record {
         stands = λ t. record {
@@ -311,6 +96,7 @@ module _ (p : Head) (limit k here n : ℕ) (from : ℕ) (level : Level p limit k
             first = let f = level .first in omega arith;
             place = omega arith;
           };
+          due = due;
           pair = q;
         };
         listed = λ l. refl;
@@ -323,7 +109,7 @@ module _ (p : Head) (limit k here n : ℕ) (from : ℕ) (level : Level p limit k
     over = let e = width-more p k (level .some) in omega arith
 
     -- at its end
-    pub ends : (m a b : List ℕ) → (k ≡ limit) ⊎ ((c : Cell) → erosion p m k c ≡ 0)
+    pub ends : (m a b : List ℕ) → (k ≡ limit) ⊎ Bare p m k
         → Advanced p m limit k n a b (record { limit = limit; number = k; here = here; place = n; top = top; more = false })
     ends m a b o =
         record {
@@ -335,9 +121,9 @@ module _ (p : Head) (limit k here n : ℕ) (from : ℕ) (level : Level p limit k
         }
 
     -- at the next residue
-    pub goes-on : k < limit → k * p .width + k * p .width < area p → (m a b : List ℕ) → PairMidway p m k here n top a b
+    pub goes-on : k < limit → k * p .width + k * p .width < area p → (here ≡ 0 → ⊥) → (m a b : List ℕ) → PairMidway p m k here n top a b
         → Advanced p m limit k n a b (record { limit = limit; number = k + 1; here = top; place = k * p .width; top = 0; more = true })
-    goes-on l g m a b q =
+    goes-on l g d m a b q =
         let e : k + 1 - 1 ≡ k = omega arith in
         let f = ap (λ (j : ℕ). j * p .width) e in
         record {
@@ -350,6 +136,7 @@ module _ (p : Head) (limit k here n : ℕ) (from : ℕ) (level : Level p limit k
               first = omega (arith, f);
               place = omega (arith, f);
             };
+            due = λ i z. pair-deep p m k here n top a b q d (subst (Bare p m) e z);
             pair = pair-next p m k here n top a b q (level .some) over;
           };
           listed = λ i. so-far-next p m (level .sides .wide) k (omega arith)
@@ -360,9 +147,27 @@ module _ (p : Head) (limit k here n : ℕ) (from : ℕ) (level : Level p limit k
 
 -- ---- a series before its first run
 
-pub started : (p : Head) (limit : ℕ) (m b b′ : List ℕ) (v : ℕ) → Startable p limit m b → Stepped p m b b′ v
-    → Started p limit m b b′ (record { limit = limit; number = 1; here = v; place = 0; top = 0; more = true })
-started p limit m b b′ v s e =
+-- the highest of no numbers, and of one number more
+pub tops-none : (m : List ℕ) → Tops 0 m 0
+tops-none m = record { over = λ i l. absurd (omega arith); bare = λ z. refl }
+
+pub tops-more : (n top r : ℕ) (m : List ℕ) → Tops n m top → r ≡ max top (getD m n 0) → Tops (n + 1) m r
+tops-more n top r m h e =
+    record {
+      over = λ i l. go i l (decLe n i);
+      bare = λ z. omega (arith, h .bare (λ i l. z i (omega arith)), z n (omega arith));
+    }
+  where
+    go : (i : ℕ) → i < n + 1 → Dec (n ≤ i) → getD m i 0 ≤ r
+    go i l (yes g) = let k : i ≡ n = omega arith in rw k (omega arith)
+    go i l (no g) = omega (arith, h .over i (omega arith))
+
+pub tops-end : (i n r : ℕ) (m : List ℕ) → i ≤ n → n ≤ i → Tops i m r → Tops n m r
+tops-end i n r m a b h = let k : i ≡ n = omega arith in subst (λ (j : ℕ). Tops j m r) k h
+
+pub started : (p : Head) (limit : ℕ) (m b b′ : List ℕ) (v here : ℕ) → Startable p limit m b → Stepped p m b b′ v → Tops (area p) b′ here
+    → Started p limit m b b′ (record { limit = limit; number = 1; here = here; place = 0; top = 0; more = true })
+started p limit m b b′ v here s e top =
     record {
       first = (refl, refl, refl, refl);
       stands = record {
@@ -374,6 +179,7 @@ started p limit m b b′ v s e =
           first = omega (arith, zero-mul (p .width));
           place = omega (arith, zero-mul (p .width), mul-le-mul (s .sides .tall) (s .sides .wide));
         };
+        due = λ i. absurd (omega arith);
         pair = record { even = λ z. absurd (omega arith); odd = λ z. first };
       };
       listed = refl;
@@ -386,18 +192,21 @@ started p limit m b b′ v s e =
     eroded : HoldsErosion p m 1 b′
     eroded = held-next p m 0 m relief b b′ v e (s .room)
 
-    low : (c : Cell) → On p c ⊎ ((n : List ℕ) → at p n c ≡ 0) → erosion p m 1 c ≤ v
+    low : (c : Cell) → On p c ⊎ ((n : List ℕ) → at p n c ≡ 0) → erosion p m 1 c ≤ here
     low c (inl o) =
-        subst (λ d. erosion p m 1 d ≤ v) (sym (o .is))
+        subst (λ d. erosion p m 1 d ≤ here) (sym (o .is))
         (omega (
           arith,
           eroded .holds (cell (o .column) (o .row)),
           at-cell p b′ (o .column) (o .row) (o .left) (o .upper),
-          e .top (o .column) (o .row) (o .left) (o .upper),
+          top .over (o .row * p .width + o .column) (digits-lt (o .upper) (o .left)),
         ))
     low c (inr z) = omega (arith, erosion-off p m 1 c z)
 
-    first : Midway p m 1 v 0 0 m b′
+    bare : Bare p m 1 → (x y : ℕ) → x < p .width → y < p .height → getD b′ (y * p .width + x) 0 ≡ 0
+    bare z x y a b = sym (at-cell p b′ x y a b) ∙ eroded .holds (cell x y) ∙ z (cell x y)
+
+    first : Midway p m 1 here 0 0 m b′
     first =
         record {
           held = eroded;
@@ -406,6 +215,8 @@ started p limit m b b′ v s e =
           ahead = λ x y a b i. absurd (omega arith);
           behind = λ x y a b i. sym (at-cell p m x y a b) ∙ relief .holds (cell x y);
           under = λ x y a b i. absurd (omega arith);
+          bare-here = λ z. top .bare (λ i l. at-place p (s .sides .wide) b′ i l (λ x y a b g. bare z x y a b));
+          bare-top = λ z. refl;
         }
 
 -- ---- one run, from what its parts leave
@@ -419,7 +230,7 @@ left-less places limit k n end first l f a b =
 module _ (p : Head) (s : Stand) (a a′ b b′ marks marks′ : List ℕ) (end : ℕ) (w : Swept) (top : ℕ) (next : Stand)
     (level : Level p (s .limit) (s .number) (s .place)) (run : RunEnd p (s .number) (s .place) end)
     (swept : PairSweep p (s .number) (record { start = s .place; number = end - s .place }) a a′ b b′ marks marks′ w) (is : top ≡ max (s .top) (w .top))
-    (advanced : (m a b : List ℕ) → PairMidway p m (s .number) (s .here) end top a b → Advanced p m (s .limit) (s .number) end a b next) where
+    (advanced : (m a b : List ℕ) → Due p m (s .number) → PairMidway p m (s .number) (s .here) end top a b → Advanced p m (s .limit) (s .number) end a b next) where
   at-end : s .place + (end - s .place) ≡ end
   at-end = let l = run .some in omega arith
 
@@ -428,9 +239,10 @@ module _ (p : Head) (s : Stand) (a a′ b b′ marks marks′ : List ℕ) (end :
 
   on : (m : List ℕ) → Standing p m s a b → Advanced p m (s .limit) (s .number) end a′ b′ next
   on m t =
-      advanced m a′ b′
+      advanced m a′ b′ (t .due)
       (subst (λ (n : ℕ). PairMidway p m (s .number) (s .here) n top a′ b′) at-end
-      (pair-swept p m (s .number) (s .here) (s .place) (s .top) a b (t .pair) _ a′ b′ marks marks′ w swept refl top is))
+      (pair-swept p m (s .number) (s .here) (s .place) (s .top) a b (t .pair) _ a′ b′ marks marks′ w swept refl
+      (level .sides .wide) within top is))
 
   of : (m : List ℕ) → Standing p m s a b → TakenOf p m s a′ b′ marks′ (record {
     places = record { start = s .place; number = end - s .place };

@@ -24,8 +24,21 @@ use Rattle.residue_series.specs.declared.Stand.{Stand}
 use Rattle.residue_series.specs.declared.Run.{Run}
 use Rattle.residue_series.specs.Plunges.{placeListed, soFar, plungeAt, marksTo}
 
+-- "a rung has no depth above 0" (document 02, N3): the erosion is 0 everywhere
+abbrev pub Bare : Head → List ℕ → ℕ → Type 0
+Bare p m k = (c : Cell) → erosion p m k c ≡ 0
+
+-- residue k is due: it is the first, or there is depth above 0 in rung k - 1. A climb that takes no others "shall end there"
+abbrev pub Due : Head → List ℕ → ℕ → Type 0
+Due p m k = 2 ≤ k → Bare p m (k - 1) → ⊥
+
+-- r is no lower than any of the first n numbers of a map, and 0 where all of them are
+pub record Tops (n : ℕ) (m : List ℕ) (r : ℕ) : Type 0 where
+  pub over : (i : ℕ) → i < n → getD m i 0 ≤ r
+  pub bare : ((i : ℕ) → i < n → getD m i 0 ≡ 0) → r ≡ 0
+
 -- the one buffer holds erosion k, no number of which is above `here`; the other holds erosion k + 1 before place n, none above `top`, and
--- erosion k - 1 from there on
+-- erosion k - 1 from there on. `here` and `top` are 0 where these are bare
 pub record Midway (p : Head) (m : List ℕ) (k here n top : ℕ) (prev cur : List ℕ) : Type 0 where
   pub held : HoldsErosion p m k cur
   pub low : (c : Cell) → erosion p m k c ≤ here
@@ -33,6 +46,8 @@ pub record Midway (p : Head) (m : List ℕ) (k here n top : ℕ) (prev cur : Lis
   pub ahead : (x y : ℕ) → x < p .width → y < p .height → y * p .width + x < n → getD prev (y * p .width + x) 0 ≡ erosion p m (k + 1) (cell x y)
   pub behind : (x y : ℕ) → x < p .width → y < p .height → n ≤ y * p .width + x → getD prev (y * p .width + x) 0 ≡ erosion p m (k - 1) (cell x y)
   pub under : (x y : ℕ) → x < p .width → y < p .height → y * p .width + x < n → getD prev (y * p .width + x) 0 ≤ top
+  pub bare-here : Bare p m k → here ≡ 0
+  pub bare-top : ((x y : ℕ) → x < p .width → y < p .height → y * p .width + x < n → getD prev (y * p .width + x) 0 ≡ 0) → top ≡ 0
 
 -- an even erosion stands in the first buffer, an odd one in the second
 pub record PairMidway (p : Head) (m : List ℕ) (k here n top : ℕ) (a b : List ℕ) : Type 0 where
@@ -48,9 +63,10 @@ pub record Level (p : Head) (limit k n : ℕ) : Type 0 where
   pub first : (k - 1) * p .width ≤ n
   pub place : n + (k - 1) * p .width < area p
 
--- a series stands at a place
+-- a series stands at a place of a residue that is due
 pub record Standing (p : Head) (m : List ℕ) (s : Stand) (a b : List ℕ) : Type 0 where
   pub level : Level p (s .limit) (s .number) (s .place)
+  pub due : Due p m (s .number)
   pub pair : PairMidway p m (s .number) (s .here) (s .place) (s .top) a b
 
 -- the listing up to where a series stands
@@ -83,11 +99,11 @@ pub record PairSweep (p : Head) (k : ℕ) (s : Places) (a a′ b b′ marks mark
   pub even : k % 2 ≡ 0 → (a′ ≡ a) × SweepOf p s b b′ a marks marks′ r
   pub odd : k % 2 ≡ 1 → (b′ ≡ b) × SweepOf p s a a′ b marks marks′ r
 
--- whether the residue where a series stands is its last: no later one is taken, or its erosion is 0 everywhere ("later rungs can give no plunge")
+-- whether the residue where a series stands is its last: no later one is taken, or its erosion is bare ("later rungs can give no plunge")
 pub record LastResidue (p : Head) (s : Stand) (r : Bool) : Type 0 where
   pub ends : r ≡ true → (m : List ℕ) (n top : ℕ) (a b : List ℕ) → PairMidway p m (s .number) (s .here) n top a b
-      → (s .number ≡ s .limit) ⊎ ((c : Cell) → erosion p m (s .number) c ≡ 0)
-  pub goes-on : r ≡ false → (s .number < s .limit) × (s .number * p .width + s .number * p .width < area p)
+      → (s .number ≡ s .limit) ⊎ Bare p m (s .number)
+  pub goes-on : r ≡ false → (s .number < s .limit) × (s .number * p .width + s .number * p .width < area p) × (s .here ≡ 0 → ⊥)
 
 -- r is where a series stands that has swept residue k up to place n
 pub record Advanced (p : Head) (m : List ℕ) (limit k n : ℕ) (a b : List ℕ) (r : Stand) : Type 0 where

@@ -5,12 +5,13 @@ use residue_marks::Places;
 use residue_marks::Swept;
 ghost use mathlib.Core.List.{List};
 ghost use Prim.Native.Nat.{ℕ, _≤_};
+ghost use lib.ListN.{length};
 ghost use Rattle.geometry.specs.Plate.{area};
-ghost use Rattle.residue_series.specs.Stands.{PairMidway, Level, RunEnd, PairToSweep, PairSweep, LastResidue};
+ghost use Rattle.residue_series.specs.Stands.{Due, Tops, PairMidway, Level, RunEnd, PairToSweep, PairSweep, LastResidue};
 ghost use Rattle.residue_series.specs.Stands.{Advanced, Startable, Started, Underway, Taken};
 
-// Where a series stands: the last residue that it takes; the erosion whose residue is taken, and a number no lower than any of it; the next
-// place, and a number no lower than any of the next erosion before that place; whether some places are left.
+// Where a series stands: the last residue that it takes; the erosion whose residue is taken, and a number no lower than any of it, 0 where it
+// is bare; the next place, and such a number of the next erosion before that place; whether some places are left.
 pub struct Stand {
     pub limit: usize,
     pub number: usize,
@@ -27,12 +28,29 @@ pub struct Run {
     pub next: Stand,
 }
 
-// The series before its first run: the relief in the first buffer, its first erosion in the second.
+// The highest of the first n bytes of a map.
+fn highest(map: &[u8], n: usize) -> u8
+    requires { ⌜ n ≤ length (now map) ⌝ }
+    ensures { λ r. ⌜ Tops n (now (map .entry)) r ⌝ }
+{
+    let mut top = 0u8;
+    let mut i = 0;
+    while i < n {
+        top = window::higher(top, map[i]);
+        i += 1;
+    }
+    top
+}
+
+// The series before its first run: the relief in the first buffer, its first erosion in the second. The number that the step returns may be
+// that of a cell at a side, which it then sets to 0: a bare erosion would not be seen.
 pub fn start(head: Head, limit: usize, a: &[u8], b: &mut [u8]) -> Stand
     requires { ⌜ Startable head limit (now a) (now b) ⌝ }
     ensures { λ r. ⌜ Started head limit (now (a .entry)) (now (b .entry)) (now (b .exit)) r ⌝ }
 {
-    let here = erosion_step::erode_step(head, 0, a, b);
+    let cells = (head.height as usize) * (head.width as usize);
+    erosion_step::erode_step(head, 0, a, b);
+    let here = highest(b, cells);
     Stand {
         limit,
         number: 1,
@@ -90,7 +108,7 @@ fn sweep_pair(
     residue_marks::sweep_places(head, places, a, b, marks)
 }
 
-// Whether no residue after this one is taken or can mark a place: it is the last, or its erosion is 0 everywhere.
+// Whether no residue after this one is taken or can mark a place: it is the last, or its erosion is bare ("the climb … shall end there").
 fn is_last(head: Head, at: Stand) -> bool
     requires { ⌜ Level head (at .limit) (at .number) (at .place) ⌝ }
     ensures { λ r. ⌜ LastResidue head at r ⌝ }
@@ -113,7 +131,7 @@ fn is_last(head: Head, at: Stand) -> bool
 // Where a series stands that has swept up to a place: there, or at the next residue's first place, or at its end.
 fn advance(head: Head, at: Stand, place: usize, top: u8) -> Stand
     requires { ⌜ Level head (at .limit) (at .number) (at .place) × (at .place ≤ place) × (place ≤ area head) ⌝ }
-    ensures { λ r. ⌜ ((m a b : List ℕ) → PairMidway head m (at .number) (at .here) place top a b
+    ensures { λ r. ⌜ ((m a b : List ℕ) → Due head m (at .number) → PairMidway head m (at .number) (at .here) place top a b
         → Advanced head m (at .limit) (at .number) place a b r) ⌝ }
 {
     let limit = at.limit;

@@ -5,7 +5,7 @@ use native.Mathlib.Omega.{arith}
 use lib.ListN.{length}
 use Rattle.refusal.specs.Refusals.{largestSide}
 use Rattle.bounding_box.specs.Boxes.{CroppedRows}
-use Rattle.bounding_box.proofs.Boxing.{room, cropped-none, cropped-more, cropped-end, cropped-whole}
+use Rattle.bounding_box.proofs.Boxing.{room, copied-none, copied-end, cropped-more, cropped-whole}
 use Rattle.bounding_box.proofs.crop.Statement.{statement}
 use Rattle.bounding_box.proofs.crop.Tie as tie
 
@@ -22,7 +22,7 @@ returns c =
     cropped-whole _ _ _ (c .before .if1 .taken) (c .if2 .taken) (at-start .pre .across)
 
 loop-holds : tie.Need-loop-holds Inv-loop μ-loop
-loop-holds c = (omega arith, refl, cropped-none _ _ _)
+loop-holds c = (omega arith, refl, copied-none _ _ _ _)
 
 add-load-line : tie.Need-add-load-line Inv-loop μ-loop
 add-load-line c =
@@ -89,7 +89,7 @@ same-length : tie.Need-same-length Inv-loop μ-loop
 same-length c = c .before .loop .inv .2 .same
 
 returns-2 : tie.Need-returns-2 Inv-loop μ-loop
-returns-2 c = cropped-end _ _ _ _ _ (c .before .loop .inv .0) (c .loop-test .left) (c .before .loop .inv .2)
+returns-2 c = copied-end _ _ _ _ _ _ (c .before .loop .inv .0) (c .loop-test .left) (c .before .loop .inv .2)
 
 pub crop-spec : {M : Type 1} → statement M
 crop-spec =

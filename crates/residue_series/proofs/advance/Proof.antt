@@ -26,7 +26,7 @@ add-if1-2 c = omega (arith, level-small _ _ _ _ (c .before .before .pre .0))
 returns : tie.Need-returns
 returns c =
     let at-start = c .before .before .before in
-    λ m a b q. stays _ _ _ _ _ _ (at-start .pre .0) (at-start .pre .1) _ (c .if1 .taken) m a b q
+    λ m a b due q. stays _ _ _ _ _ _ (at-start .pre .0) (at-start .pre .1) _ (c .if1 .taken) m a b due q
 
 is-last-requires : tie.Need-is-last-requires
 is-last-requires c κs = search needs
@@ -34,7 +34,7 @@ is-last-requires c κs = search needs
 returns-2 : tie.Need-returns-2
 returns-2 c =
     let at-start = c .before .before .before .before .before in
-    λ m a b q. ends _ _ _ _ _ _ (at-start .pre .0) (at-start .pre .1) _ (c .before .before .if1 .left) m a b
+    λ m a b due q. ends _ _ _ _ _ _ (at-start .pre .0) (at-start .pre .1) _ (c .before .before .if1 .left) m a b
     (c .before .is-last .ensures .ends (c .if2 .taken) m _ _ a b q)
 
 add-t11 : tie.Need-add-t11
@@ -44,7 +44,7 @@ returns-3 : tie.Need-returns-3
 returns-3 c =
     let at-start = c .before .before .before .before .before in
     let on = c .before .is-last .ensures .goes-on (c .if2 .left) in
-    λ m a b q. goes-on _ _ _ _ _ _ (at-start .pre .0) (at-start .pre .1) _ (c .before .before .if1 .left) (on .0) (on .1) m a b q
+    λ m a b due q. goes-on _ _ _ _ _ _ (at-start .pre .0) (at-start .pre .1) _ (c .before .before .if1 .left) (on .0) (on .1) (on .2) m a b q
 
 pub advance-spec : {M : Type 1} → statement M
 advance-spec =

@@ -37,7 +37,7 @@ returns-4 : tie.Need-returns-4
 returns-4 c =
     let at-if1 = c .before .before .before in
     let at-start = at-if1 .before .before .before .before .before in
-    not-last _ _ (at-start .pre) (at-if1 .if1 .left) (c .if3 .left)
+    not-last _ _ (at-start .pre) (at-if1 .if1 .left) (c .before .if2 .left) (c .if3 .left)
 
 pub is-last-spec : {M : Type 1} → statement M
 is-last-spec =

@@ -1,6 +1,7 @@
 -- `next_run` sweeps up to the run's end and goes on from there: `taken` joins what its parts leave.
 use native.Mathlib.Omega.{arith}
-use Rattle.residue_series.proofs.Stands.{pair-to-sweep, taken}
+use Rattle.residue_series.proofs.Midways.{pair-to-sweep}
+use Rattle.residue_series.proofs.Stands.{taken}
 use borrow.Author.Needs.{needs}
 use Rattle.residue_series.proofs.next_run.Statement.{statement}
 use Rattle.residue_series.proofs.next_run.Tie as tie
