@@ -27,7 +27,6 @@ def contestants(calls, relief, kind, level, file, numbers):
     """Each call with everything made ready, by name: the call, and where its answer stands."""
     ours = bench.Ours(calls, relief, kind)
     back = bench.Ours(calls, numbers, kind)
-    out = np.zeros(len(file), np.uint8)
     size = relief.shape[::-1]
     return {
         "listing": ours.listing(len(file)),

@@ -128,7 +128,7 @@ pub fn bounds_of(head: Head, map: &[u8]) -> Bounds
 
 // ---- a box copied
 
-// As many bytes of a map from a place on, to another map from a place on.
+// Some bytes of a map from a place on, to another map from a place on.
 fn copy_line(src: &[u8], from: usize, dst: &mut [u8], to: usize, count: usize)
     requires { ⌜ (from + count ≤ length (now src)) × (to + count ≤ length (now dst)) ⌝ }
     ensures { λ _. ⌜ Filled (λ n. getD (now (src .entry)) (from + (n - to)) 0) to (to + count) (now (dst .entry)) (now (dst .exit)) ⌝ }
