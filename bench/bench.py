@@ -40,6 +40,8 @@ NOISE = {"listing": 2.5, "drawing": 1.5, "clearance map": 1.0}    # the same for
 # document 02, N3: "depth 1 in its first 13 columns and 0 elsewhere lists in at most a third of the time that depth 1 everywhere takes"
 THIN, THIN_MOST = 13, 1 / 3
 COLUMNS = (6, THIN, 25, 60)
+MOTIF = "H8"        # a text in the middle of a bare plate
+EVERYWHERE = "everywhere"
 
 
 # what was tried and stays as it is, for the page
@@ -63,17 +65,30 @@ def plates(side):
         "noise": rough,
         "dome": scans.make(rng, scans.dome, side, side),
         "cone": np.maximum(0, 255 - 255 * np.hypot(y, x) / (side / 2)).astype(np.uint8),
-        f"{THIN} columns": first_columns(THIN, side),
+        columns_name(THIN): first_columns(THIN, side),
         "photo texture": np.clip(128 + (smooth - 128) * 12, 0, 255).astype(np.uint8),
         "stamp text": stamp(side),
     }
 
 
-def first_columns(number, side, width=None):
-    """Depth 1 in the first columns of a plate, which is a square if no width is given."""
-    out = np.zeros((side, width or side), np.uint8)
+def first_columns(number, side):
+    """Depth 1 in the first columns of a plate."""
+    out = np.zeros((side, side), np.uint8)
     out[:, :number] = 1
     return out
+
+
+def motif(side):
+    """A short text of depth 100 in the middle of a bare plate."""
+    out = np.zeros((side, side), np.uint8)
+    cv2.putText(out, MOTIF, (side // 3, side * 13 // 24), cv2.FONT_HERSHEY_SIMPLEX, side / 160, 100, max(1, side // 48))
+    return out
+
+
+def cropped(relief):
+    """A relief's own rectangle, outside of which it is 0."""
+    rows, columns = np.flatnonzero(relief.any(1)), np.flatnonzero(relief.any(0))
+    return np.ascontiguousarray(relief[rows[0]:rows[-1] + 1, columns[0]:columns[-1] + 1])
 
 
 def stamp(side):
@@ -81,6 +96,15 @@ def stamp(side):
     for line in range(5):
         cv2.putText(out, "HARU 480", (4, (line + 1) * side // 5 - 8), cv2.FONT_HERSHEY_SIMPLEX, side / 160, 60 + 40 * line, max(1, side // 40))
     return out
+
+
+def columns_name(number):
+    return f"{number} columns"
+
+
+def thins():
+    """Reliefs that leave most of a plate bare, by name."""
+    return {columns_name(n): first_columns(n, SIDE) for n in COLUMNS} | {MOTIF: motif(SIDE)}
 
 
 def level_of(plate):
@@ -316,17 +340,18 @@ def side_table(sides):
 
 
 def thin_table(thin):
-    lines = ["| Call | Kind | Columns with depth | µs | of depth 1 everywhere | of these columns as a plate |", "|---|---|---|---|---|---|"]
+    lines = ["| Call | Kind | Depth in | µs | of depth 1 everywhere | of its rectangle as a plate |", "|---|---|---|---|---|---|"]
     for (call, kind), times in thin.items():
-        for number in COLUMNS:
-            here, whole, alone = times[number, SIDE], times[SIDE, SIDE], times[number, number]
-            lines.append(f"| {call} | {kind} | {number} | {here[0]:,.1f} ({here[1]:,.1f}) | **{here[0] / whole[0]:.3f}** | {here[0] / alone[0]:.2f} |")
+        for name in thins():
+            here, whole, alone = times[name, "plate"], times[EVERYWHERE, "plate"], times[name, "rectangle"]
+            part = "" if name == MOTIF else f"**{here[0] / whole[0]:.3f}**"
+            lines.append(f"| {call} | {kind} | {name} | {here[0]:,.1f} ({here[1]:,.1f}) | {part} | {here[0] / alone[0]:.2f} |")
     return lines + [""]
 
 
 def too_slow(thin):
     """What of a thin relief takes more than N3 allows."""
-    ratios = {kind: times[THIN, SIDE][0] / times[SIDE, SIDE][0] for (call, kind), times in thin.items() if call == "listing"}
+    ratios = {kind: times[columns_name(THIN), "plate"][0] / times[EVERYWHERE, "plate"][0] for (call, kind), times in thin.items() if call == "listing"}
     return [f"listing, {THIN} columns, kind {kind}: {ratio:.3f} of the time of depth 1 everywhere; a third is allowed"
             for kind, ratio in ratios.items() if ratio > THIN_MOST]
 
@@ -406,9 +431,10 @@ def write(results, sides, thin, short, asked, head):
         lines += [f"- {line}" for line in behind] + [""]
     if thin:
         lines += ["## Thin reliefs", "",
-                  f"Depth 1 in the first columns of a plate of {SIDE} by {SIDE} cells, 0 elsewhere: the time (median), what part that is of the time",
-                  "for depth 1 everywhere, and of the time for a plate that has just these columns. `bench/run` fails if a listing of",
-                  f"{THIN} columns takes more than a third of depth 1 everywhere (document 02, N3); `bench/run --thin` times this table alone.", ""]
+                  f"Depth 1 in the first columns of a plate of {SIDE} by {SIDE} cells, or '{MOTIF}' in its middle, 0 elsewhere: the time (median), what",
+                  "part that is of the time for depth 1 everywhere, and of the time for a plate that is just the rectangle with depth. `bench/run`",
+                  f"fails if a listing of {THIN} columns takes more than a third of depth 1 everywhere (document 02, N3); `bench/run --thin` times",
+                  "this table alone.", ""]
         lines += thin_table(thin)
     lines += ["## Times", ""]
     for call in calls_of(results):
@@ -451,18 +477,21 @@ def time_sides(calls, asked):
 
 
 def time_thin(calls, asked):
-    """{(call, kind): {(columns with depth, width of the plate): times}}, of the library alone"""
+    """{(call, kind): {(relief, on the plate or on its own rectangle): times}}, of the library alone"""
     thin = {}
     for kind in (4, 8) if "haru_list" in calls else ():
         ready = {}
-        for number, width in [(n, SIDE) for n in (*COLUMNS, SIDE)] + [(n, n) for n in COLUMNS]:
-            relief = first_columns(number, SIDE, width)
+        reliefs = {(EVERYWHERE, "plate"): first_columns(SIDE, SIDE)}
+        for name, relief in thins().items():
+            reliefs |= {(name, "plate"): relief, (name, "rectangle"): cropped(relief)}
+        for which, relief in reliefs.items():
             file = peers.cv_listing(relief, kind, "box")
             ours = Ours(calls, relief, kind)
-            contestants = {"listing": ours.listing(len(file)), "tidying": ours.tidying(file), "check": ours.check(file)}
-            for call, (function, answer) in contestants.items():
-                assert answer is None or answer.tobytes() == file.tobytes(), f"{call}: {number} of {width} columns differ"
-                ready.setdefault(call, {})[number, width] = (function, answer)
+            contestants = {"listing": (ours.listing(len(file)), file), "drawing": (ours.drawing(file), relief),
+                           "tidying": (ours.tidying(file), file), "check": (ours.check(file), None)}
+            for call, ((function, answer), right) in contestants.items():
+                assert right is None or answer.tobytes() == right.tobytes(), f"{call}: {which} differs"
+                ready.setdefault(call, {})[which] = (function, answer)
         for call, contestants in ready.items():
             thin[call, kind] = race(contestants, 2 * asked.samples, asked.least)
     return thin

@@ -1,10 +1,11 @@
--- Laws of boxes: stretches without a number above 0, joined columns and rows, the box that they give, rows cropped one after the other.
-use mathlib.Core.Path.{_≡_, refl, ap, _∙_, subst}
+-- Laws of boxes: stretches without a number above 0, joined columns and rows, the box that they give, rows copied, cropped and spread out one
+-- after the other.
+use mathlib.Core.Path.{_≡_, refl, sym, ap, _∙_, subst}
 use mathlib.Core.List.{List}
-use Prim.Native.Nat.{ℕ, _+_, _*_, _-_, _≤_, _<_, max}
+use Prim.Native.Nat.{ℕ, suc, _+_, _*_, _-_, _≤_, _<_, max}
 use native.Mathlib.Omega.{arith}
 use native.Mathlib.Decide.{decLe}
-use native.Mathlib.Nat.{suc-mul, add-mul, mul-le-mul-right, mul-le-mul}
+use native.Mathlib.Nat.{zero-mul, suc-mul, add-mul, mul-le-mul-right, mul-le-mul}
 use native.Mathlib.Numerals.{add-one}
 use lib.Arith.{digits-lt}
 use lib.ListN.{length, getD, set}
@@ -13,10 +14,11 @@ use Rattle.geometry.specs.declared.Head.{Head}
 use Rattle.geometry.specs.Plate.{area}
 use Rattle.refusal.specs.Sides.{Sides}
 use Rattle.buffers.specs.Fill.{Filled}
-use Rattle.buffers.proofs.Fill.{filled-none, filled-more, filled-as, row-under}
+use Rattle.buffers.proofs.Fill.{filled-none, filled-more, filled-as, row-under, row-over}
 use Rattle.bounding_box.specs.declared.Bounds.{Bounds}
 use Rattle.bounding_box.specs.declared.Span.{Span}
-use Rattle.bounding_box.specs.Boxes.{Within, BareOutside, CopiedRows, Copied, Copyable, CroppedRows, Cropped, Croppable, Joined, Topped, Bare, Spans}
+use Rattle.bounding_box.specs.Boxes.{Within, BareOutside, CopiedRows, Copied, Copyable, CroppedRows, Cropped, Croppable, SpreadRows, Spread}
+use Rattle.bounding_box.specs.Boxes.{Joined, Topped, Bare, Spans}
 
 -- ---- stretches without a number above 0
 
@@ -240,3 +242,165 @@ module _ (w : ℕ) (b : Bounds) (old : List ℕ) where
           let k : y ≡ y + b .row = omega arith in
           let j : y * b .width ≡ (y + b .row) * w = ap (λ (n : ℕ). y * n) g ∙ ap (λ (n : ℕ). n * w) k in
           omega (arith, j, l, g)
+
+-- ---- a box spread out
+
+-- where row y of a box is read from, and where it comes to stand
+pub record Stretch (p : Head) (b : Bounds) (y : ℕ) : Type 0 where
+  pub next : (y + 1 + b .row) * p .width ≡ (y + b .row) * p .width + p .width
+  pub source : y * b .width + b .width ≤ (y + b .row) * p .width + p .width
+  pub above : (y + b .row) * p .width + p .width ≤ (b .height + b .row) * p .width
+  pub within : (y + b .row) * p .width + p .width ≤ area p
+
+pub stretch : (p : Head) (b : Bounds) → Within p b → (y : ℕ) → y < b .height → Stretch p b y
+stretch p b h y l =
+    let across = h .across in
+    let down = h .down in
+    let i : y + 1 + b .row ≡ suc (y + b .row) = omega arith in
+    let j : suc (y + b .row) ≤ p .height = omega arith in
+    let k : suc y ≤ suc (y + b .row) = omega arith in
+    let c : b .width ≤ p .width = omega arith in
+    let u : suc (y + b .row) ≤ b .height + b .row = omega arith in
+    record {
+      next = ap (λ (n : ℕ). n * p .width) i ∙ suc-mul (y + b .row) (p .width);
+      source = omega (arith, suc-mul y (b .width), suc-mul (y + b .row) (p .width), mul-le-mul k c);
+      above = omega (arith, suc-mul (y + b .row) (p .width), mul-le-mul-right (p .width) u);
+      within = omega (arith, suc-mul (y + b .row) (p .width), mul-le-mul-right (p .width) j);
+    }
+
+-- the same of the row before one
+pub turn : (p : Head) (b : Bounds) → Within p b → (y : ℕ) → 0 < y → y ≤ b .height → Stretch p b (y - 1)
+turn p b h y a l = stretch p b h (y - 1) (omega arith)
+
+-- the rows above a box, and those down to its last
+pub spread-rooms : (p : Head) (b : Bounds) → Within p b → (b .row * p .width ≤ (b .height + b .row) * p .width) × ((b .height + b .row) * p .width ≤ area p)
+spread-rooms p b h =
+    let down = h .down in
+    let i : b .row ≤ b .height + b .row = omega arith in
+    let j : b .height + b .row ≤ p .height = omega arith in
+    (mul-le-mul-right (p .width) i, mul-le-mul-right (p .width) j)
+
+module _ (w : ℕ) (b : Bounds) (old : List ℕ) where
+  pub spread-none : SpreadRows w b (b .height) old old
+  spread-none =
+      record {
+        same = refl;
+        holds = λ x y a c d. absurd (omega arith);
+        west = λ x y a c d. absurd (omega arith);
+        east = λ x y a e c d. absurd (omega arith);
+        under = λ n l. refl;
+        over = λ n l. refl;
+      }
+
+  -- one row more, by way of an array
+  pub spread-more : (y k : ℕ) (mid half new line line′ : List ℕ) → k ≡ y + 1 → b .column + b .width ≤ w
+      → (y + 1 + b .row) * w ≡ (y + b .row) * w + w → y * b .width + b .width ≤ (y + b .row) * w + w → (y + b .row) * w + w ≤ (b .height + b .row) * w
+      → SpreadRows w b k old mid
+      → Filled (λ n. getD mid (y * b .width + n) 0) 0 (b .width) line line′
+      → Filled (λ n. 0) ((y + b .row) * w) ((y + b .row) * w + w) mid half
+      → Filled (λ n. getD line′ (n - ((y + b .row) * w + b .column)) 0) ((y + b .row) * w + b .column) ((y + b .row) * w + b .column + b .width) half new
+      → SpreadRows w b y old new
+  spread-more y k mid half new line line′ is-next across next source above done f z g =
+      record {
+        same = g .same ∙ z .same ∙ c .same;
+        holds = λ x i a d e. row x i a d e (decLe (y + 1) i);
+        west = λ x i a d e. left x i a d e (decLe (y + 1) i);
+        east = λ x i a k d e. right x i a k d e (decLe (y + 1) i);
+        under = λ n a. g .under n (omega arith) ∙ z .under n a ∙ c .under n (omega arith);
+        over = λ n a. behind n (omega arith) ∙ c .over n a;
+      }
+    where
+      c : SpreadRows w b (y + 1) old mid
+      c = subst (λ (k : ℕ). SpreadRows w b k old mid) is-next done
+
+      start : ℕ
+      start = (y + b .row) * w
+
+      -- what stands behind the row stays
+      behind : (n : ℕ) → start + w ≤ n → getD new n 0 ≡ getD mid n 0
+      behind n a = g .over n (omega arith) ∙ z .over n a
+
+      -- so do the rows below it
+      below : (x i : ℕ) → y + 1 ≤ i → getD new ((i + b .row) * w + x) 0 ≡ getD mid ((i + b .row) * w + x) 0
+      below x i k = behind ((i + b .row) * w + x) (omega (arith, next, row-over w (y + 1 + b .row) x (i + b .row) (omega arith)))
+
+      row : (x i : ℕ) → x < b .width → y ≤ i → i < b .height → Dec (y + 1 ≤ i)
+          → getD new ((i + b .row) * w + (x + b .column)) 0 ≡ getD old (i * b .width + x) 0
+      row x i a d e (yes k) = below (x + b .column) i k ∙ c .holds x i a k e
+      row x i a d e (no k) =
+          let is : i ≡ y = omega arith in
+          let place : start + (x + b .column) ≡ start + b .column + x = omega arith in
+          let back : start + b .column + x - (start + b .column) ≡ x = omega arith in
+          rw is
+          (ap (λ (n : ℕ). getD new n 0) place ∙ g .inside (start + b .column + x) (omega arith) (omega arith) ∙ ap (λ (n : ℕ). getD line′ n 0) back
+          ∙ f .inside x (omega arith) a ∙ c .under (y * b .width + x) (omega arith))
+
+      left : (x i : ℕ) → x < b .column → y ≤ i → i < b .height → Dec (y + 1 ≤ i) → getD new ((i + b .row) * w + x) 0 ≡ 0
+      left x i a d e (yes k) = below x i k ∙ c .west x i a k e
+      left x i a d e (no k) =
+          let is : i ≡ y = omega arith in rw is (g .under (start + x) (omega arith) ∙ z .inside (start + x) (omega arith) (omega arith))
+
+      right : (x i : ℕ) → b .column + b .width ≤ x → x < w → y ≤ i → i < b .height → Dec (y + 1 ≤ i) → getD new ((i + b .row) * w + x) 0 ≡ 0
+      right x i a l d e (yes k) = below x i k ∙ c .east x i a l k e
+      right x i a l d e (no k) =
+          let is : i ≡ y = omega arith in rw is (g .over (start + x) (omega arith) ∙ z .inside (start + x) (omega arith) (omega arith))
+
+module _ (p : Head) (b : Bounds) (h : Within p b) (old : List ℕ) where
+  abbrev w : ℕ
+  w = p .width
+
+  -- a box that is the whole plate stands where it is to stand
+  pub spread-whole : b .width ≡ w → b .height ≡ p .height → Spread p b old old
+  spread-whole e g =
+      let across = h .across in
+      let down = h .down in
+      let left : b .column ≡ 0 = omega arith in
+      let top : b .row ≡ 0 = omega arith in
+      record {
+        same = refl;
+        holds = λ x y a c.
+            let i : y + b .row ≡ y = omega arith in
+            ap (λ (n : ℕ). getD old n 0) (omega (arith, left, ap (λ (n : ℕ). n * w) i, ap (λ (n : ℕ). y * n) e));
+        bare = record {
+          west = λ x y a c d. absurd (omega arith);
+          east = λ x y a c d. absurd (omega arith);
+          north = λ x y a c d. absurd (omega arith);
+          south = λ x y a c d. absurd (omega arith);
+        };
+        surplus = λ n l. refl;
+      }
+
+  -- all rows of the box, then zeros above it and below it
+  pub spread-all : (y : ℕ) (rows half new : List ℕ) → y ≤ 0 → SpreadRows w b y old rows → Filled (λ n. 0) 0 (b .row * w) rows half
+      → Filled (λ n. 0) ((b .height + b .row) * w) (area p) half new → Spread p b old new
+  spread-all y rows half new e c above below =
+      record {
+        same = below .same ∙ above .same ∙ c .same;
+        holds = λ x i a d. stays (x + b .column) i d (omega (arith, h .across)) ∙ c .holds x i a (omega arith) d;
+        bare = record {
+          west = λ x i a d l. all x i a d (λ j k t. ap (λ (n : ℕ). getD rows (n * w + x) 0) k ∙ c .west x j l (omega arith) t);
+          east = λ x i a d l. all x i a d (λ j k t. ap (λ (n : ℕ). getD rows (n * w + x) 0) k ∙ c .east x j l a (omega arith) t);
+          north = λ x i a d l. all x i a d (λ j k t. absurd (omega arith));
+          south = λ x i a d l. all x i a d (λ j k t. absurd (omega arith));
+        };
+        surplus = λ n l. below .over n l ∙ above .over n (omega (arith, spread-rooms p b h)) ∙ c .over n (omega (arith, spread-rooms p b h));
+      }
+    where
+      stays : (x i : ℕ) → i < b .height → x < w → getD new ((i + b .row) * w + x) 0 ≡ getD rows ((i + b .row) * w + x) 0
+      stays x i d l =
+          below .under ((i + b .row) * w + x) (row-under w (b .height + b .row) x (i + b .row) l (omega arith))
+          ∙ above .over ((i + b .row) * w + x) (row-over w (b .row) x (i + b .row) (omega arith))
+
+      -- a cell is 0 that is 0 where its row is one of the box
+      all : (x i : ℕ) → x < w → i < p .height → ((j : ℕ) → i ≡ j + b .row → j < b .height → getD rows (i * w + x) 0 ≡ 0) → getD new (i * w + x) 0 ≡ 0
+      all x i a d z = go (decLe (b .row) i) (decLe (b .height + b .row) i)
+        where
+          go : Dec (b .row ≤ i) → Dec (b .height + b .row ≤ i) → getD new (i * w + x) 0 ≡ 0
+          go k (yes l) = below .inside (i * w + x) (row-over w (b .height + b .row) x i l) (digits-lt d a)
+          go (no k) (no l) =
+              below .under (i * w + x) (row-under w (b .height + b .row) x i a (omega arith))
+              ∙ above .inside (i * w + x) (omega arith) (row-under w (b .row) x i a (omega arith))
+          go (yes k) (no l) =
+              let is : i ≡ i - b .row + b .row = omega arith in
+              ap (λ (n : ℕ). getD new (n * w + x) 0) is ∙ stays x (i - b .row) (omega arith) a ∙ ap (λ (n : ℕ). getD rows (n * w + x) 0) (sym is)
+              ∙ z (i - b .row) is (omega arith)

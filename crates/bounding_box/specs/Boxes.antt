@@ -1,4 +1,4 @@
--- Serves proofs: a box of a plate outside of which a map is 0, what finding it leaves in arrays, and a box copied or a map cropped to it.
+-- Serves proofs: a box of a plate outside of which a map is 0, what finding it leaves in arrays, a box copied or a map cropped to it, and a box spread out.
 use mathlib.Core.Path.{_≡_}
 use mathlib.Core.List.{List}
 use Prim.Native.Nat.{ℕ, _+_, _*_, _≤_, _<_, max}
@@ -54,6 +54,23 @@ pub record Croppable (w : ℕ) (b : Bounds) (m : List ℕ) : Type 0 where
 pub record Copyable (w : ℕ) (b : Bounds) (src dst : List ℕ) : Type 0 where
   pub box : Croppable w b src
   pub room : b .height * b .width ≤ length dst
+
+-- the rows of a box from one on, which stood one after the other at the map's start, stand in their place among rows of w bytes, with 0 beside
+-- them; all else is as it was
+pub record SpreadRows (w : ℕ) (b : Bounds) (from : ℕ) (old new : List ℕ) : Type 0 where
+  pub same : length new ≡ length old
+  pub holds : (x y : ℕ) → x < b .width → from ≤ y → y < b .height → getD new ((y + b .row) * w + (x + b .column)) 0 ≡ getD old (y * b .width + x) 0
+  pub west : (x y : ℕ) → x < b .column → from ≤ y → y < b .height → getD new ((y + b .row) * w + x) 0 ≡ 0
+  pub east : (x y : ℕ) → b .column + b .width ≤ x → x < w → from ≤ y → y < b .height → getD new ((y + b .row) * w + x) 0 ≡ 0
+  pub under : (n : ℕ) → n < (from + b .row) * w → getD new n 0 ≡ getD old n 0
+  pub over : (n : ℕ) → (b .height + b .row) * w ≤ n → getD new n 0 ≡ getD old n 0
+
+-- all of them, on a plate that is 0 about the box; what lies past the plate is as it was
+pub record Spread (p : Head) (b : Bounds) (old new : List ℕ) : Type 0 where
+  pub same : length new ≡ length old
+  pub holds : (x y : ℕ) → x < b .width → y < b .height → getD new ((y + b .row) * p .width + (x + b .column)) 0 ≡ getD old (y * b .width + x) 0
+  pub bare : BareOutside p b new
+  pub surplus : (n : ℕ) → area p ≤ n → getD new n 0 ≡ getD old n 0
 
 -- ---- joined columns and rows
 

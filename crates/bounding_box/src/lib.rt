@@ -1,4 +1,5 @@
-// The smallest box of a plate outside of which a map is 0; a box copied to another map, and a map cropped to a box in place.
+// The smallest box of a plate outside of which a map is 0; a box copied to another map, a map cropped to a box in place, and a box spread out
+// over its plate in place.
 use geometry::Head;
 ghost use mathlib.Core.Path.{_≡_};
 ghost use Prim.Native.Nat.{_+_, _-_, _≤_};
@@ -7,7 +8,7 @@ ghost use Rattle.geometry.specs.Plate.{area};
 ghost use Rattle.refusal.specs.Refusals.{largestSide};
 ghost use Rattle.refusal.specs.Sides.{Sides};
 ghost use Rattle.buffers.specs.Fill.{Filled};
-ghost use Rattle.bounding_box.specs.Boxes.{Within, BareOutside, Copied, Copyable, Cropped, Croppable};
+ghost use Rattle.bounding_box.specs.Boxes.{Within, BareOutside, Copied, Copyable, Cropped, Croppable, Spread};
 ghost use Rattle.bounding_box.specs.Boxes.{Joinable, Joined, Plates, Topped, Bare, Spans};
 
 // A number for each column or for each row is held in an array of this length.
@@ -210,4 +211,36 @@ pub fn crop(width: usize, b: Bounds, map: &mut [u8])
         store_line(&line, map, y * count, count);
         y += 1;
     }
+}
+
+// ---- a box spread out
+
+// Spreads rows that stand one after the other at a map's start over their box of a plate, with zeros about it; what lies past the plate stays.
+// From the last row on: a row gets no earlier place than it had, so none is written over before it is read.
+pub fn spread(head: Head, b: Bounds, map: &mut [u8])
+    requires { ⌜ Sides head × Within head b × (area head ≤ length (now map)) ⌝ }
+    ensures { λ _. ⌜ Spread head b (now (map .entry)) (now (map .exit)) ⌝ }
+{
+    let width = head.width as usize;
+    let height = head.height as usize;
+    let left = b.column;
+    let top = b.row;
+    let count = b.width;
+    let rows = b.height;
+    if count == width {
+        if rows == height {
+            return;
+        }
+    }
+    let mut line = [0u8; SIDE];
+    let mut y = rows;
+    while 0 < y {
+        y -= 1;
+        let start = (y + top) * width;
+        load_line(map, y * count, count, &mut line);
+        buffers::zero_run(map, start, start + width);
+        store_line(&line, map, start + left, count);
+    }
+    buffers::zero_run(map, 0, top * width);
+    buffers::zero_run(map, (rows + top) * width, height * width);
 }

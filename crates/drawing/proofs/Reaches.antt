@@ -23,6 +23,7 @@ use Rattle.theory.proofs.Balls.{col-near, row-near}
 use Rattle.theory.proofs.Erosion.{le-highestNear, highestNear-met}
 use Rattle.theory.proofs.Plunges.{fitsPlate-iff}
 use Rattle.theory.proofs.Plate.{at-tabulated}
+use Rattle.drawing_box.proofs.Rooms.{both, room}
 use Rattle.drawing.specs.Reaches.{deepest, drawnFrom, centredDepth}
 
 -- ---- the highest depth of some plunges
@@ -47,11 +48,6 @@ module _ (t : Plunge → Bool) (qs : List Plunge) where
       go : Dec (1 ≤ deepest t qs) → deepest t qs ≤ v
       go (no g) = omega arith
       go (yes g) = let m = deepest-met g in omega (arith, h (m .0) (m .1) (m .2), m .3)
-
--- both of two tests
-both : (a b : Bool) → cond a b false ≡ true → (a ≡ true) × (b ≡ true)
-both true b e = (refl, e)
-both false b e = let z : _≡_ {A = ℕ} 0 1 = cc in absurd (omega arith)
 
 -- a plunge of reach r, centred at the cell
 pub placed-here : (kd : Kind) (r : ℕ) (q : Plunge) (c : Cell) → q .reach .0 ≡ r → dist kd (centre q) c ≡ 0
@@ -121,20 +117,6 @@ module _ (kd : Kind) (qs : List Plunge) where
           le-deepest (narrow r c) qs m (le-leb _ _ l))
 
 -- ---- plunges that fit the plate
-
--- the room that a ball has on each side
-pub record Room (p : Head) (q : Plunge) : Type 0 where
-  pub west : q .reach .0 ≤ q .column
-  pub north : q .reach .0 ≤ q .row
-  pub east : q .column + q .reach .0 < p .width
-  pub south : q .row + q .reach .0 < p .height
-
-pub room : (p : Head) (q : Plunge) → fitsPlate p q ≡ true → Room p q
-room p q e =
-    let a = both (leb (q .reach .0) (q .column)) _ e in
-    let b = both (leb (q .reach .0) (q .row)) _ (a .1) in
-    let c = both (ltb (q .column + q .reach .0) (p .width)) _ (b .1) in
-    record { west = leb-true _ _ (a .0); north = leb-true _ _ (b .0); east = ltb-true _ _ (c .0); south = ltb-true _ _ (c .1) }
 
 module _ (p : Head) (qs : List Plunge) (fits : (q : Plunge) → List·Memᴰ q qs → fitsPlate p q ≡ true) (r : ℕ) where
   -- a cell that no ball holds

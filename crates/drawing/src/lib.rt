@@ -1,12 +1,12 @@
-// Drawing a list of plunges into a relief, from the largest reach down: the map grows by one, then the plunges of the next reach are placed.
-// Where the reaches of a list rise, each plunge is read twice; in any other order at most once more for each reach.
+// Drawing a list of plunges into a relief: on the box that their balls hold, taken for a plate of its own, from the largest reach down; the map
+// grows by one, then the plunges of the next reach are placed. At the end the box is spread out over the plate.
+// Where the reaches of a list rise, each plunge is read three times; in any other order at most once more for each reach.
+use drawing_box::Drawing;
 use geometry::Head;
-use geometry::Plunge;
 use geometry::Reach;
-use reading::MaybePlunge;
 use window_filter::Leaf;
 ghost use mathlib.Core.Path.{_≡_};
-ghost use Prim.Native.Nat.{_+_, _*_, _≤_, _<_, max};
+ghost use Prim.Native.Nat.{_+_, _≤_, _<_};
 ghost use mathlib.Core.Bool.{cond};
 ghost use lib.Dec.{eqb};
 ghost use lib.ListN.{length, replicate};
@@ -14,38 +14,22 @@ ghost use Rattle.geometry.specs.Plate.{area};
 ghost use Rattle.theory.specs.Listing.{drawn};
 ghost use Rattle.buffers.specs.Fill.{Mapped};
 ghost use Rattle.refusal.specs.Sides.{Sides};
-ghost use Rattle.reading.specs.Reading.{plungesUpTo, nthPlunge};
+ghost use Rattle.reading.specs.Reading.{plungesUpTo};
+ghost use Rattle.drawing_box.specs.Boxed.{Drawable, Placeable, partOf, plungeIn, plungesOn};
 ghost use Rattle.drawing.specs.Reaches.{drawnFrom};
-ghost use Rattle.drawing.specs.Files.{Drawable, reaches, Ranges, Raised};
+ghost use Rattle.drawing.specs.Files.{reaches, reachIn, Ranges, Raised};
 
 // How many reaches there are: from 0 to the largest.
 const REACHES: usize = (Reach::MAX.0 as usize) + 1;
 
 // ---- which plunges have a reach
 
-// Plunge number i of a file.
-fn plunge_at(head: Head, file: &[u8], count: usize, i: usize) -> Plunge
-    requires { ⌜ Sides head × Drawable head count (now file) × (i < count) ⌝ }
-    ensures { λ r. ⌜ r ≡ nthPlunge (now (file .entry)) i ⌝ }
-{
-    let maybe = reading::plunge_at(head.size(), file, fields::place(head, i));
-    match maybe {
-        MaybePlunge::OfPlunge(q) => q,
-        MaybePlunge::NoPlunge => Plunge {
-            column: 0,
-            row: 0,
-            reach: Reach(0),
-            depth: 0,
-        },
-    }
-}
-
-// Its reach, as a number.
+// The reach of plunge number i of a file, as a number.
 fn reach_at(head: Head, file: &[u8], count: usize, i: usize) -> usize
     requires { ⌜ Sides head × Drawable head count (now file) × (i < count) ⌝ }
-    ensures { λ r. ⌜ r ≡ nthPlunge (now (file .entry)) i .reach .0 ⌝ }
+    ensures { λ r. ⌜ r ≡ reachIn (now (file .entry)) i ⌝ }
 {
-    let q = plunge_at(head, file, count, i);
+    let q = drawing_box::plunge_at(head, file, count, i);
     q.reach.0 as usize
 }
 
@@ -65,7 +49,7 @@ fn find_ranges(
     last: &mut [usize; REACHES],
 ) -> usize
     requires { ⌜ Sides head × Drawable head count (now file) × (now first ≡ replicate reaches 0) × (now last ≡ replicate reaches 0) ⌝ }
-    ensures { λ r. ⌜ Ranges (now (file .entry)) count (now (first .exit)) (now (last .exit)) r ⌝ }
+    ensures { λ r. ⌜ Ranges (reachIn (now (file .entry))) count (now (first .exit)) (now (last .exit)) r ⌝ }
 {
     let mut top = 0;
     let mut i = 0;
@@ -82,12 +66,12 @@ fn find_ranges(
 // ---- placing
 
 // A plunge of the reach raises the number at its centre to its depth at least; any other leaves the map as it is.
-fn place_one(head: Head, file: &[u8], count: usize, i: usize, reach: usize, map: &mut [u8])
-    requires { ⌜ Sides head × Drawable head count (now file) × (i < count) × (area head ≤ length (now map)) ⌝ }
-    ensures { λ _. ⌜ Raised head (now (file .entry)) reach i (i + 1) (now (map .entry)) (now (map .exit)) ⌝ }
+fn place_one(d: Drawing, file: &[u8], i: usize, reach: usize, map: &mut [u8])
+    requires { ⌜ Placeable d (now file) × (i < d .count) × (area (partOf d) ≤ length (now map)) ⌝ }
+    ensures { λ _. ⌜ Raised (partOf d) (plungeIn d (now (file .entry))) reach i (i + 1) (now (map .entry)) (now (map .exit)) ⌝ }
 {
-    let width = head.width as usize;
-    let q = plunge_at(head, file, count, i);
+    let width = d.part.width;
+    let q = drawing_box::plunge_in(d, file, i);
     if (q.reach.0 as usize) == reach {
         let n = (q.row as usize) * width + (q.column as usize);
         let old = map[n];
@@ -96,21 +80,13 @@ fn place_one(head: Head, file: &[u8], count: usize, i: usize, reach: usize, map:
 }
 
 // Places the plunges of one reach in a stretch of the list.
-fn place_range(
-    head: Head,
-    file: &[u8],
-    count: usize,
-    from: usize,
-    to: usize,
-    reach: usize,
-    map: &mut [u8],
-)
-    requires { ⌜ Sides head × Drawable head count (now file) × (from ≤ to) × (to ≤ count) × (area head ≤ length (now map)) ⌝ }
-    ensures { λ _. ⌜ Raised head (now (file .entry)) reach from to (now (map .entry)) (now (map .exit)) ⌝ }
+fn place_range(d: Drawing, file: &[u8], from: usize, to: usize, reach: usize, map: &mut [u8])
+    requires { ⌜ Placeable d (now file) × (from ≤ to) × (to ≤ d .count) × (area (partOf d) ≤ length (now map)) ⌝ }
+    ensures { λ _. ⌜ Raised (partOf d) (plungeIn d (now (file .entry))) reach from to (now (map .entry)) (now (map .exit)) ⌝ }
 {
     let mut i = from;
     while i < to {
-        place_one(head, file, count, i, reach, map);
+        place_one(d, file, i, reach, map);
         i += 1;
     }
 }
@@ -119,23 +95,24 @@ fn place_range(
 
 // From the largest reach down: what is drawn so far grows by one, and the plunges of the next reach are placed.
 fn draw_reaches(
-    head: Head,
+    d: Drawing,
     file: &[u8],
-    count: usize,
     first: &[usize; REACHES],
     last: &[usize; REACHES],
     top: usize,
     map: &mut [u8],
 )
-    requires { ⌜ Sides head × Drawable head count (now file) × (area head ≤ length (now map)) × Ranges (now file) count (now first) (now last) top × Mapped head (λ c. 0) (now map) (now map) ⌝ }
-    ensures { λ _. ⌜ Mapped head (drawnFrom (head .kind) 0 (plungesUpTo count (now (file .entry)))) (now (map .entry)) (now (map .exit)) ⌝ }
+    requires { ⌜ Placeable d (now file) × (area (partOf d) ≤ length (now map)) × Ranges (reachIn (now file)) (d .count) (now first) (now last) top
+        × Mapped (partOf d) (λ c. 0) (now map) (now map) ⌝ }
+    ensures { λ _. ⌜ Mapped (partOf d) (drawnFrom (d .head .kind) 0 (plungesOn d (now (file .entry)))) (now (map .entry)) (now (map .exit)) ⌝ }
 {
-    place_range(head, file, count, first[top], last[top], top, map);
+    let part = drawing_box::part_of(d);
+    place_range(d, file, first[top], last[top], top, map);
     let mut reach = top;
     while 0 < reach {
         reach -= 1;
-        window_filter::filter_map(head, Leaf::Highest, reach, map);
-        place_range(head, file, count, first[reach], last[reach], reach, map);
+        window_filter::filter_map(part, Leaf::Highest, reach, map);
+        place_range(d, file, first[reach], last[reach], reach, map);
     }
 }
 
@@ -144,11 +121,11 @@ pub fn draw_into(head: Head, file: &[u8], count: usize, map: &mut [u8])
     requires { ⌜ Sides head × Drawable head count (now file) × (area head ≤ length (now map)) ⌝ }
     ensures { λ _. ⌜ Mapped head (drawn (head .kind) (plungesUpTo count (now (file .entry)))) (now (map .entry)) (now (map .exit)) ⌝ }
 {
-    let width = head.width as usize;
-    let height = head.height as usize;
     let mut first = [0usize; REACHES];
     let mut last = [0usize; REACHES];
-    buffers::zero_run(map, 0, height * width);
     let top = find_ranges(head, file, count, &mut first, &mut last);
-    draw_reaches(head, file, count, &first, &last, top, map);
+    let part = drawing_box::box_of(head, file, count, top);
+    buffers::zero_run(map, 0, part.height * part.width);
+    draw_reaches(Drawing { head, count, part }, file, &first, &last, top, map);
+    bounding_box::spread(head, part, map);
 }

@@ -29,7 +29,7 @@ use Rattle.reading.specs.declared.Job.{Job}
 use Rattle.reading.proofs.Readable.{readable-sound}
 use Rattle.reading.proofs.Answers.{after-file, file-fault}
 use Rattle.refusal.specs.Sides.{Sides}
-use Rattle.drawing.specs.Files.{Drawable}
+use Rattle.drawing_box.specs.Boxed.{Drawable}
 use Rattle.listing.specs.declared.ListAnswer.{ListAnswer}
 use Rattle.listing.specs.declared.ListAnswer.the-variants.{Unlisted}
 use Rattle.listing.specs.Staging.{ListedInto}

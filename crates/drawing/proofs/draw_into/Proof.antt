@@ -1,56 +1,68 @@
--- `draw_into` draws reach by reach on a plate of zeros; the last is the drawing.
+-- `draw_into` draws reach by reach on a box of zeros; spread out, the last is the drawing.
 use native.Mathlib.Omega.{arith}
-use Rattle.drawing.proofs.Files.{drawn-mapped, zeroed}
+use Rattle.drawing_box.proofs.Boxed.{placeable}
+use Rattle.drawing.proofs.Files.{zeroed}
+use Rattle.drawing.proofs.Boxes.{part-small, part-area, spread-drawn}
 use borrow.Author.Needs.{needs}
 use Rattle.drawing.proofs.draw_into.Statement.{statement}
 use Rattle.drawing.proofs.draw_into.Tie as tie
 
-cast-width : tie.Need-cast-width
-cast-width c = search needs
-
-cast-height : tie.Need-cast-height
-cast-height c = search needs
-
-mul-zero-run : tie.Need-mul-zero-run
-mul-zero-run c = search needs
-
-zero-run-requires : tie.Need-zero-run-requires
-zero-run-requires c κs = search needs
-
 find-ranges-requires : tie.Need-find-ranges-requires
 find-ranges-requires c κs = search needs
 
+box-of-requires : tie.Need-box-of-requires
+box-of-requires c κs = search needs
+
+mul-zero-run : tie.Need-mul-zero-run
+mul-zero-run c =
+    let at-box-of = c .before .before in
+    let at-start = at-box-of .before .before .before .before .before .before in
+    let on-box = placeable _ _ _ _ (at-start .pre .0) (at-start .pre .1) (at-box-of .box-of .ensures) in
+    omega (arith, part-small _ _ on-box)
+
+zero-run-requires : tie.Need-zero-run-requires
+zero-run-requires c κs =
+    let at-box-of = c .before .before in
+    let at-start = at-box-of .before .before .before .before .before .before in
+    let on-box = placeable _ _ _ _ (at-start .pre .0) (at-start .pre .1) (at-box-of .box-of .ensures) in
+    (omega arith, omega (arith, part-area _ _ on-box, at-start .pre .2))
+
 draw-reaches-requires : tie.Need-draw-reaches-requires
 draw-reaches-requires c κs =
-    let at-find-ranges = c .before .before .before in
-    let at-zero-run = at-find-ranges .before .before .before .before .before in
-    let s = at-zero-run .before .before .before .before .before .before in (
-      s .pre .0,
-      s .pre .1,
-      omega (arith, s .pre .2, at-zero-run .zero-run .ensures .same),
-      at-find-ranges .find-ranges .ensures,
+    let at-zero-run = c .before .before .before .before .before in
+    let at-box-of = at-zero-run .before .before .before in
+    let at-start = at-box-of .before .before .before .before .before .before in
+    let on-box = placeable _ _ _ _ (at-start .pre .0) (at-start .pre .1) (at-box-of .box-of .ensures) in (
+      on-box,
+      omega (arith, part-area _ _ on-box, at-start .pre .2, at-zero-run .zero-run .ensures .same),
+      at-box-of .before .find-ranges .ensures,
       zeroed _ _ _ (at-zero-run .zero-run .ensures),
     )
+
+spread-requires : tie.Need-spread-requires
+spread-requires c κs = search needs
 
 same-length : tie.Need-same-length
 same-length c = search needs
 
 returns : tie.Need-returns
 returns c =
-    let at-zero-run = c .before .before .before .before .before .before .before .before .before .before .before in
-    let s = at-zero-run .before .before .before .before .before .before in
-    drawn-mapped (s .args .head) (s .args .count) _ (s .pre .0) (s .pre .1) _ _ _ (at-zero-run .zero-run .ensures)
-    (c .before .before .draw-reaches .ensures)
+    let at-draw-reaches = c .before .before .before .before .before .before in
+    let at-zero-run = at-draw-reaches .before .before .before .before .before .before in
+    let at-box-of = at-zero-run .before .before .before in
+    let at-start = at-box-of .before .before .before .before .before .before in
+    let on-box = placeable _ _ _ _ (at-start .pre .0) (at-start .pre .1) (at-box-of .box-of .ensures) in
+    spread-drawn _ _ on-box _ _ _ _ (at-zero-run .zero-run .ensures) (at-draw-reaches .draw-reaches .ensures) (c .before .before .spread .ensures)
 
 pub draw-into-spec : {M : Type 1} → statement M
 draw-into-spec =
     tie.close
     (tie.spec
-    cast-width
-    cast-height
+    find-ranges-requires
+    box-of-requires
     mul-zero-run
     zero-run-requires
-    find-ranges-requires
     draw-reaches-requires
+    spread-requires
     same-length
     returns)

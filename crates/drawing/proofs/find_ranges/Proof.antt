@@ -2,13 +2,14 @@
 use Prim.Native.Nat.{_-_, _≤_}
 use native.Mathlib.Omega.{arith}
 use borrow.Author.Needs.{needs}
-use Rattle.drawing.specs.Files.{Ranges}
-use Rattle.drawing.proofs.Files.{reach-small, ranges-none, ranges-more, ranges-end}
+use Rattle.drawing.specs.Files.{reachIn, Ranges}
+use Rattle.drawing_box.proofs.Rooms.{reach-small}
+use Rattle.drawing.proofs.Files.{ranges-none, ranges-more, ranges-end}
 use Rattle.drawing.proofs.find_ranges.Statement.{statement}
 use Rattle.drawing.proofs.find_ranges.Tie as tie
 
 abbrev Inv-loop : tie.InvT-loop
-Inv-loop head file count first₀ last₀ top₀ i₀ first last top i = (i ≤ count) × Ranges file i first last top
+Inv-loop head file count first₀ last₀ top₀ i₀ first last top i = (i ≤ count) × Ranges (reachIn file) i first last top
 
 abbrev μ-loop : tie.MeasureT-loop
 μ-loop head file count first₀ last₀ top₀ i₀ first last top i = count - i

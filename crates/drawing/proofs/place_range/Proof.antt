@@ -1,27 +1,27 @@
 -- `place_range` places one plunge after another: the invariant is `Raised` up to the plunge reached.
 use Prim.Native.Nat.{_-_, _≤_}
 use native.Mathlib.Omega.{arith}
+use Rattle.drawing_box.specs.Boxed.{partOf, plungeIn}
 use Rattle.drawing.specs.Files.{Raised}
 use Rattle.drawing.proofs.Files.{raised-none, raised-on, raised-end}
 use Rattle.drawing.proofs.place_range.Statement.{statement}
 use Rattle.drawing.proofs.place_range.Tie as tie
 
 abbrev Inv-loop : tie.InvT-loop
-Inv-loop head file count from to reach map₀ i₀ map i = (from ≤ i) × (i ≤ to) × Raised head file reach from i map₀ map
+Inv-loop d file from to reach map₀ i₀ map i = (from ≤ i) × (i ≤ to) × Raised (partOf d) (plungeIn d file) reach from i map₀ map
 
 abbrev μ-loop : tie.MeasureT-loop
-μ-loop head file count from to reach map₀ i₀ map i = to - i
+μ-loop d file from to reach map₀ i₀ map i = to - i
 
 loop-holds : tie.Need-loop-holds Inv-loop μ-loop
-loop-holds c = let s = c .before .before in (omega arith, s .pre .2, raised-none _ _ _ _ _)
+loop-holds c = let s = c .before .before in (omega arith, s .pre .1, raised-none _ _ _ _ _)
 
 place-one-requires : tie.Need-place-one-requires Inv-loop μ-loop
 place-one-requires c κs =
     let s = c .before .before .before .before .before in (
       s .pre .0,
-      s .pre .1,
-      omega (arith, s .pre .3, c .before .loop-test .taken),
-      omega (arith, s .pre .4, c .before .before .loop .inv .2 .same),
+      omega (arith, s .pre .2, c .before .loop-test .taken),
+      omega (arith, s .pre .3, c .before .before .loop .inv .2 .same),
     )
 
 add-i : tie.Need-add-i Inv-loop μ-loop

@@ -1,22 +1,21 @@
+-- `plunge_at` reads the field where the file has it: `told` says that it is the plunge.
 use Rattle.fields.specs.Fields.{plungeBytes}
 use Rattle.geometry.specs.declared.Size.{Size}
 use mathlib.Core.Path.{ap}
 use native.Mathlib.Omega.{arith}
-use Rattle.drawing.proofs.Files.{field-room, told, told-none}
+use Rattle.drawing_box.proofs.Rooms.{field-room, told, told-none}
 use borrow.Author.Needs.{needs}
-use Rattle.drawing.proofs.plunge_at.Statement.{statement}
-use Rattle.drawing.proofs.plunge_at.Tie as tie
-use Rattle.drawing.proofs.plunge_at.Reads as reads
-use Rattle.drawing.proofs.plunge_at.Lts as lts
+use Rattle.drawing_box.proofs.plunge_at.Statement.{statement}
+use Rattle.drawing_box.proofs.plunge_at.Tie as tie
+use Rattle.drawing_box.proofs.plunge_at.Reads as reads
+use Rattle.drawing_box.proofs.plunge_at.Lts as lts
 use Rattle.fields.proofs.place.Reads as place-reads
 use Rattle.geometry.proofs.Head.size.Reads as size-reads
 use Rattle.reading.proofs.plunge_at.Reads as plunge-at-reads
 
--- src/lib.rt:31:36
 size-requires : tie.Need-size-requires
 size-requires c κs = search needs
 
--- src/lib.rt:31:55
 place-requires : tie.Need-place-requires
 place-requires c κs =
     omega (
@@ -25,7 +24,6 @@ place-requires c κs =
           (c .before .before .pre .0) (c .before .before .pre .1) (c .before .before .args .i) (c .before .before .pre .2),
     )
 
--- src/lib.rt:31:9
 plunge-at-requires : tie.Need-plunge-at-requires
 plunge-at-requires c κs =
     let at-start = c .before .before .before in
@@ -38,15 +36,12 @@ plunge-at-requires c κs =
       ap (λ (s : Size). plungeBytes s) (c .before .size .ensures),
     )
 
--- src/lib.rt:33:31
 enum-known-maybe : tie.Need-enum-known-maybe
 enum-known-maybe c = search needs
 
--- src/lib.rt:37:20
 enum-told : tie.Need-enum-told
 enum-told c = search needs
 
--- src/lib.rt:27:1
 returns : tie.Need-returns
 returns c =
     let at-plunge-at = c .before .before .before in
@@ -58,7 +53,6 @@ returns c =
     (at-start .pre .2) _ _ _ (at-plunge-at .plunge-at .ensures) (at-size .size .ensures) (at-place .place .ensures) _
     (c .before .maybe .given .1)
 
--- src/lib.rt:27:1
 returns-2 : tie.Need-returns-2
 returns-2 c =
     let at-place = c .before .before .before in
