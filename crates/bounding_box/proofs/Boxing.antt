@@ -5,7 +5,7 @@ use mathlib.Core.List.{List}
 use Prim.Native.Nat.{ℕ, suc, _+_, _*_, _-_, _≤_, _<_, max}
 use native.Mathlib.Omega.{arith}
 use native.Mathlib.Decide.{decLe}
-use native.Mathlib.Nat.{zero-mul, suc-mul, add-mul, mul-le-mul-right, mul-le-mul}
+use native.Mathlib.Nat.{suc-mul, add-mul, mul-le-mul-right, mul-le-mul}
 use native.Mathlib.Numerals.{add-one}
 use lib.Arith.{digits-lt}
 use lib.ListN.{length, getD, set}
@@ -245,32 +245,34 @@ module _ (w : ℕ) (b : Bounds) (old : List ℕ) where
 
 -- ---- a box spread out
 
--- where row y of a box is read from, and where it comes to stand
-pub record Stretch (p : Head) (b : Bounds) (y : ℕ) : Type 0 where
-  pub next : (y + 1 + b .row) * p .width ≡ (y + b .row) * p .width + p .width
-  pub source : y * b .width + b .width ≤ (y + b .row) * p .width + p .width
-  pub above : (y + b .row) * p .width + p .width ≤ (b .height + b .row) * p .width
-  pub within : (y + b .row) * p .width + p .width ≤ area p
+-- where row y of a box is read from, and where it comes to stand among rows of w bytes, n in all
+pub record Stretch (w n : ℕ) (b : Bounds) (y : ℕ) : Type 0 where
+  pub across : b .column + b .width ≤ w
+  pub next : (y + 1 + b .row) * w ≡ (y + b .row) * w + w
+  pub source : y * b .width + b .width ≤ (y + b .row) * w + w
+  pub above : (y + b .row) * w + w ≤ (b .height + b .row) * w
+  pub within : (y + b .row) * w + w ≤ n
 
-pub stretch : (p : Head) (b : Bounds) → Within p b → (y : ℕ) → y < b .height → Stretch p b y
-stretch p b h y l =
-    let across = h .across in
-    let down = h .down in
-    let i : y + 1 + b .row ≡ suc (y + b .row) = omega arith in
-    let j : suc (y + b .row) ≤ p .height = omega arith in
-    let k : suc y ≤ suc (y + b .row) = omega arith in
-    let c : b .width ≤ p .width = omega arith in
-    let u : suc (y + b .row) ≤ b .height + b .row = omega arith in
-    record {
-      next = ap (λ (n : ℕ). n * p .width) i ∙ suc-mul (y + b .row) (p .width);
-      source = omega (arith, suc-mul y (b .width), suc-mul (y + b .row) (p .width), mul-le-mul k c);
-      above = omega (arith, suc-mul (y + b .row) (p .width), mul-le-mul-right (p .width) u);
-      within = omega (arith, suc-mul (y + b .row) (p .width), mul-le-mul-right (p .width) j);
-    }
-
--- the same of the row before one
-pub turn : (p : Head) (b : Bounds) → Within p b → (y : ℕ) → 0 < y → y ≤ b .height → Stretch p b (y - 1)
-turn p b h y a l = stretch p b h (y - 1) (omega arith)
+-- that of the row before one
+pub stretch : (p : Head) (b : Bounds) → Within p b → (k : ℕ) → 0 < k → k ≤ b .height → Stretch (p .width) (area p) b (k - 1)
+stretch p b h k a l = of (k - 1) (omega arith)
+  where
+    of : (y : ℕ) → y < b .height → Stretch (p .width) (area p) b y
+    of y l =
+        let across = h .across in
+        let down = h .down in
+        let e : y + 1 + b .row ≡ suc (y + b .row) = omega arith in
+        let j : suc (y + b .row) ≤ p .height = omega arith in
+        let k : suc y ≤ suc (y + b .row) = omega arith in
+        let c : b .width ≤ p .width = omega arith in
+        let u : suc (y + b .row) ≤ b .height + b .row = omega arith in
+        record {
+          across = across;
+          next = ap (λ (n : ℕ). n * p .width) e ∙ suc-mul (y + b .row) (p .width);
+          source = omega (arith, suc-mul y (b .width), suc-mul (y + b .row) (p .width), mul-le-mul k c);
+          above = omega (arith, suc-mul (y + b .row) (p .width), mul-le-mul-right (p .width) u);
+          within = omega (arith, suc-mul (y + b .row) (p .width), mul-le-mul-right (p .width) j);
+        }
 
 -- the rows above a box, and those down to its last
 pub spread-rooms : (p : Head) (b : Bounds) → Within p b → (b .row * p .width ≤ (b .height + b .row) * p .width) × ((b .height + b .row) * p .width ≤ area p)
@@ -293,21 +295,19 @@ module _ (w : ℕ) (b : Bounds) (old : List ℕ) where
       }
 
   -- one row more, by way of an array
-  pub spread-more : (y k : ℕ) (mid half new line line′ : List ℕ) → k ≡ y + 1 → b .column + b .width ≤ w
-      → (y + 1 + b .row) * w ≡ (y + b .row) * w + w → y * b .width + b .width ≤ (y + b .row) * w + w → (y + b .row) * w + w ≤ (b .height + b .row) * w
-      → SpreadRows w b k old mid
+  pub spread-more : (n y k : ℕ) (mid half new line line′ : List ℕ) → k ≡ y + 1 → Stretch w n b y → SpreadRows w b k old mid
       → Filled (λ n. getD mid (y * b .width + n) 0) 0 (b .width) line line′
       → Filled (λ n. 0) ((y + b .row) * w) ((y + b .row) * w + w) mid half
       → Filled (λ n. getD line′ (n - ((y + b .row) * w + b .column)) 0) ((y + b .row) * w + b .column) ((y + b .row) * w + b .column + b .width) half new
       → SpreadRows w b y old new
-  spread-more y k mid half new line line′ is-next across next source above done f z g =
+  spread-more n y k mid half new line line′ is-next t done f z g =
       record {
         same = g .same ∙ z .same ∙ c .same;
         holds = λ x i a d e. row x i a d e (decLe (y + 1) i);
         west = λ x i a d e. left x i a d e (decLe (y + 1) i);
         east = λ x i a k d e. right x i a k d e (decLe (y + 1) i);
-        under = λ n a. g .under n (omega arith) ∙ z .under n a ∙ c .under n (omega arith);
-        over = λ n a. behind n (omega arith) ∙ c .over n a;
+        under = λ m a. g .under m (omega arith) ∙ z .under m a ∙ c .under m (omega (arith, t .next));
+        over = λ m a. behind m (omega (arith, t .above)) ∙ c .over m a;
       }
     where
       c : SpreadRows w b (y + 1) old mid
@@ -317,12 +317,12 @@ module _ (w : ℕ) (b : Bounds) (old : List ℕ) where
       start = (y + b .row) * w
 
       -- what stands behind the row stays
-      behind : (n : ℕ) → start + w ≤ n → getD new n 0 ≡ getD mid n 0
-      behind n a = g .over n (omega arith) ∙ z .over n a
+      behind : (m : ℕ) → start + w ≤ m → getD new m 0 ≡ getD mid m 0
+      behind m a = g .over m (omega (arith, t .across)) ∙ z .over m a
 
       -- so do the rows below it
       below : (x i : ℕ) → y + 1 ≤ i → getD new ((i + b .row) * w + x) 0 ≡ getD mid ((i + b .row) * w + x) 0
-      below x i k = behind ((i + b .row) * w + x) (omega (arith, next, row-over w (y + 1 + b .row) x (i + b .row) (omega arith)))
+      below x i k = behind ((i + b .row) * w + x) (omega (arith, t .next, row-over w (y + 1 + b .row) x (i + b .row) (omega arith)))
 
       row : (x i : ℕ) → x < b .width → y ≤ i → i < b .height → Dec (y + 1 ≤ i)
           → getD new ((i + b .row) * w + (x + b .column)) 0 ≡ getD old (i * b .width + x) 0
@@ -333,12 +333,12 @@ module _ (w : ℕ) (b : Bounds) (old : List ℕ) where
           let back : start + b .column + x - (start + b .column) ≡ x = omega arith in
           rw is
           (ap (λ (n : ℕ). getD new n 0) place ∙ g .inside (start + b .column + x) (omega arith) (omega arith) ∙ ap (λ (n : ℕ). getD line′ n 0) back
-          ∙ f .inside x (omega arith) a ∙ c .under (y * b .width + x) (omega arith))
+          ∙ f .inside x (omega arith) a ∙ c .under (y * b .width + x) (omega (arith, t .source, t .next)))
 
       left : (x i : ℕ) → x < b .column → y ≤ i → i < b .height → Dec (y + 1 ≤ i) → getD new ((i + b .row) * w + x) 0 ≡ 0
       left x i a d e (yes k) = below x i k ∙ c .west x i a k e
       left x i a d e (no k) =
-          let is : i ≡ y = omega arith in rw is (g .under (start + x) (omega arith) ∙ z .inside (start + x) (omega arith) (omega arith))
+          let is : i ≡ y = omega arith in rw is (g .under (start + x) (omega arith) ∙ z .inside (start + x) (omega arith) (omega (arith, t .across)))
 
       right : (x i : ℕ) → b .column + b .width ≤ x → x < w → y ≤ i → i < b .height → Dec (y + 1 ≤ i) → getD new ((i + b .row) * w + x) 0 ≡ 0
       right x i a l d e (yes k) = below x i k ∙ c .east x i a l k e

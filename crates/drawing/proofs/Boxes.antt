@@ -1,7 +1,7 @@
 -- Laws of drawing on a box: its plate, the centres on it, and that what is drawn there and spread out is the drawing.
 use mathlib.Core.Path.{_≡_, sym, ap, ap₂, _∙_, subst}
 use mathlib.Core.Bool.{Bool, true}
-use mathlib.Core.List.{List, List·Memᴰ}
+use mathlib.Core.List.{List, [], _∷_}
 use Prim.Native.Nat.{ℕ, _+_, _*_, _-_, _≤_, _<_, max}
 use native.Mathlib.Omega.{arith}
 use native.Mathlib.Decide.{decLe}
@@ -14,6 +14,7 @@ use Rattle.geometry.specs.declared.Kind.{Kind}
 use Rattle.geometry.specs.declared.Kind.the-variants.{Diamond, Square}
 use Rattle.geometry.specs.declared.Head.{Head}
 use Rattle.geometry.specs.declared.Plunge.{Plunge}
+use Rattle.geometry.specs.Lists.{gather}
 use Rattle.geometry.specs.Plane.{Cell, cell, gap, dist}
 use Rattle.geometry.specs.Plate.{area, at}
 use Rattle.geometry.specs.Plunges.{centre}
@@ -34,7 +35,7 @@ use Rattle.reading.specs.Reading.{nthPlunge, plungesUpTo}
 use Rattle.drawing_box.specs.declared.Drawing.{Drawing}
 use Rattle.drawing_box.specs.Boxed.{Held, Placeable, partOf, boxed, plungeIn, plungesOn}
 use Rattle.drawing_box.proofs.Boxed.{part-sides, placeable-fits}
-use Rattle.drawing.specs.Reaches.{drawnFrom}
+use Rattle.drawing.specs.Reaches.{deepest, drawnFrom}
 use Rattle.drawing.specs.Files.{centreAt}
 use Rattle.drawing.proofs.Reaches.{le-deepest, deepest-le, drawn-from-zero}
 use Rattle.drawing.proofs.Files.{centre-within, index, member}
@@ -61,6 +62,16 @@ dist-boxed Diamond b q h x y =
     ap₂ (λ (m n : ℕ). m + n) (gap-boxed (b .column) (q .column) x (omega (arith, h .west))) (gap-boxed (b .row) (q .row) y (omega (arith, h .north)))
 dist-boxed Square b q h x y =
     ap₂ max (gap-boxed (b .column) (q .column) x (omega (arith, h .west))) (gap-boxed (b .row) (q .row) y (omega (arith, h .north)))
+
+-- of two lists, number by number: what passes of the one passes of the other, as deep at least
+deepest-under : (n : ℕ) (f g : ℕ → Plunge) (s t : Plunge → Bool)
+    → ((i : ℕ) → i < n → s (f i) ≡ true → (t (g i) ≡ true) × (f i .depth ≤ g i .depth))
+    → deepest s (gather n 0 (λ i. f i ∷ [])) ≤ deepest t (gather n 0 (λ i. g i ∷ []))
+deepest-under n f g s t h =
+    deepest-le s (gather n 0 (λ i. f i ∷ [])) _ (λ q m e.
+    let k = index n f m in
+    let u = h (k .0) (k .1) (subst (λ (q : Plunge). s q ≡ true) (k .2) e) in
+    omega (arith, ap (λ (q : Plunge). q .depth) (k .2), u .1, le-deepest t (gather n 0 (λ i. g i ∷ [])) (member n g (k .0) (k .1)) (u .0)))
 
 module _ (d : Drawing) (f : List ℕ) (h : Placeable d f) where
   -- ---- the box as a plate
@@ -110,27 +121,13 @@ module _ (d : Drawing) (f : List ℕ) (h : Placeable d f) where
 
     boxed-under : drawnFrom kd 0 (plungesOn d f) (cell x y) ≤ drawnFrom kd 0 qs onPlate
     boxed-under =
-        deepest-le (drawn-there (cell x y)) (plungesOn d f) _ (λ q m e.
-        let t = index (d .count) (plungeIn d f) m in
-        let l = there (cell x y) (plungeIn d f (t .0)) (subst (λ (q : Plunge). drawn-there (cell x y) q ≡ true) (t .2) e) in
-        omega (
-          arith,
-          ap (λ (q : Plunge). q .depth) (t .2),
-          le-deepest (drawn-there onPlate) qs (member (d .count) (nthPlunge f) (t .0) (t .1))
-              (is-there onPlate (nthPlunge f (t .0)) (omega (arith, l, as-far (t .0) (t .1)))),
-        ))
+        deepest-under (d .count) (plungeIn d f) (nthPlunge f) (drawn-there (cell x y)) (drawn-there onPlate)
+        (λ i l e. (is-there onPlate (nthPlunge f i) (omega (arith, there (cell x y) (plungeIn d f i) e, as-far i l)), omega arith))
 
     boxed-over : drawnFrom kd 0 qs onPlate ≤ drawnFrom kd 0 (plungesOn d f) (cell x y)
     boxed-over =
-        deepest-le (drawn-there onPlate) qs _ (λ q m e.
-        let t = index (d .count) (nthPlunge f) m in
-        let l = there onPlate (nthPlunge f (t .0)) (subst (λ (q : Plunge). drawn-there onPlate q ≡ true) (t .2) e) in
-        omega (
-          arith,
-          ap (λ (q : Plunge). q .depth) (t .2),
-          le-deepest (drawn-there (cell x y)) (plungesOn d f) (member (d .count) (plungeIn d f) (t .0) (t .1))
-              (is-there (cell x y) (plungeIn d f (t .0)) (omega (arith, l, as-far (t .0) (t .1)))),
-        ))
+        deepest-under (d .count) (nthPlunge f) (plungeIn d f) (drawn-there onPlate) (drawn-there (cell x y))
+        (λ i l e. (is-there (cell x y) (plungeIn d f i) (omega (arith, there onPlate (nthPlunge f i) e, as-far i l)), omega arith))
 
     drawn-boxed : drawnFrom kd 0 (plungesOn d f) (cell x y) ≡ drawnFrom kd 0 qs onPlate
     drawn-boxed = omega (arith, boxed-under, boxed-over)

@@ -53,6 +53,10 @@ module _ (p : Head) (n : ℕ) (f : List ℕ) (sides : Sides p) (d : Drawable p n
   pub reach-small : nthPlunge f i .reach .0 ≤ largestReach
   reach-small = let r = nth-room p n f d i l in omega (arith, r .west, r .east, sides .narrow)
 
+  -- so is a number that is told to be it
+  pub told-reach : (r : ℕ) → r ≡ nthPlunge f i .reach .0 → r ≤ largestReach
+  told-reach r e = omega (arith, reach-small)
+
   -- the field that was read is the file's
   module _ (m : MaybePlunge) (s : Size) (at : ℕ) (e : m ≡ plungeIf s f at) (z : s ≡ sizeOf p) (a : at ≡ place p i) where
     whole : m ≡ OfPlunge (nthPlunge f i)

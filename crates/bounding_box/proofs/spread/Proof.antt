@@ -6,7 +6,7 @@ use borrow.Author.Needs.{needs}
 use lib.ListN.{length}
 use Rattle.refusal.specs.Refusals.{largestSide}
 use Rattle.bounding_box.specs.Boxes.{SpreadRows}
-use Rattle.bounding_box.proofs.Boxing.{turn, spread-rooms, spread-none, spread-more, spread-whole, spread-all}
+use Rattle.bounding_box.proofs.Boxing.{stretch, spread-rooms, spread-none, spread-more, spread-whole, spread-all}
 use Rattle.bounding_box.proofs.spread.Statement.{statement}
 use Rattle.bounding_box.proofs.spread.Tie as tie
 
@@ -42,19 +42,19 @@ add-start c =
 mul-start : tie.Need-mul-start Inv-loop μ-loop
 mul-start c =
     let at-start = c .before .before .before .before .before .before in
-    omega (arith, turn _ _ (at-start .pre .1) _ (c .loop-test .taken) (c .before .loop .inv .0) .within, at-start .pre .2)
+    omega (arith, stretch _ _ (at-start .pre .1) _ (c .loop-test .taken) (c .before .loop .inv .0) .within, at-start .pre .2)
 
 mul-load-line : tie.Need-mul-load-line Inv-loop μ-loop
 mul-load-line c =
     let at-start = c .before .before .before .before .before .before .before in
-    let t = turn _ _ (at-start .pre .1) _ (c .before .loop-test .taken) (c .before .before .loop .inv .0) in
+    let t = stretch _ _ (at-start .pre .1) _ (c .before .loop-test .taken) (c .before .before .loop .inv .0) in
     omega (arith, t .source, t .within, at-start .pre .2)
 
 load-line-requires : tie.Need-load-line-requires Inv-loop μ-loop
 load-line-requires c κs =
     let at-loop = c .before .before .before in
     let at-start = at-loop .before .before .before .before .before in
-    let t = turn _ _ (at-start .pre .1) _ (c .before .before .loop-test .taken) (at-loop .loop .inv .0) in (
+    let t = stretch _ _ (at-start .pre .1) _ (c .before .before .loop-test .taken) (at-loop .loop .inv .0) in (
       omega (arith, t .source, t .within, at-start .pre .2, at-loop .loop .inv .2 .same),
       omega (arith, at-start .pre .1 .across, at-start .pre .0 .narrow),
       at-loop .loop .inv .1,
@@ -64,29 +64,31 @@ add-zero-run : tie.Need-add-zero-run Inv-loop μ-loop
 add-zero-run c =
     let at-test = c .before .before .before .before in
     let at-start = at-test .before .before .before .before .before .before in
-    omega (arith, turn _ _ (at-start .pre .1) _ (at-test .loop-test .taken) (at-test .before .loop .inv .0) .within, at-start .pre .2)
+    omega (arith, stretch _ _ (at-start .pre .1) _ (at-test .loop-test .taken) (at-test .before .loop .inv .0) .within, at-start .pre .2)
 
 zero-run-requires : tie.Need-zero-run-requires Inv-loop μ-loop
 zero-run-requires c κs =
-    let at-loop = c .before .before .before .before .before in
+    let at-test = c .before .before .before .before in
+    let at-loop = at-test .before in
     let at-start = at-loop .before .before .before .before .before in
-    let t = turn _ _ (at-start .pre .1) _ (c .before .before .before .before .loop-test .taken) (at-loop .loop .inv .0) in
+    let t = stretch _ _ (at-start .pre .1) _ (at-test .loop-test .taken) (at-loop .loop .inv .0) in
     (omega arith, omega (arith, t .within, at-start .pre .2, at-loop .loop .inv .2 .same))
 
 add-store-line : tie.Need-add-store-line Inv-loop μ-loop
 add-store-line c =
-    let at-loop = c .before .before .before .before .before .before .before .before .before .before in
-    let at-start = at-loop .before .before .before .before .before in
-    let t = turn _ _ (at-start .pre .1) _ (c .before .before .before .before .before .before .before .before .before .loop-test .taken) (at-loop .loop .inv .0) in
-    omega (arith, t .within, at-start .pre .2, at-start .pre .1 .across)
+    let at-test = c .before .before .before .before .before .before .before .before .before in
+    let at-start = at-test .before .before .before .before .before .before in
+    let t = stretch _ _ (at-start .pre .1) _ (at-test .loop-test .taken) (at-test .before .loop .inv .0) in
+    omega (arith, t .within, at-start .pre .2, t .across)
 
 store-line-requires : tie.Need-store-line-requires Inv-loop μ-loop
 store-line-requires c κs =
     let at-zero-run = c .before .before .before .before in
-    let at-loop = at-zero-run .before .before .before .before .before .before in
+    let at-test = at-zero-run .before .before .before .before .before in
+    let at-loop = at-test .before in
     let at-start = at-loop .before .before .before .before .before in
-    let t = turn _ _ (at-start .pre .1) _ (c .before .before .before .before .before .before .before .before .before .loop-test .taken) (at-loop .loop .inv .0) in (
-      omega (arith, t .within, at-start .pre .2, at-start .pre .1 .across, at-loop .loop .inv .2 .same, at-zero-run .zero-run .ensures .same),
+    let t = stretch _ _ (at-start .pre .1) _ (at-test .loop-test .taken) (at-loop .loop .inv .0) in (
+      omega (arith, t .within, at-start .pre .2, t .across, at-loop .loop .inv .2 .same, at-zero-run .zero-run .ensures .same),
       omega (arith, at-start .pre .1 .across, at-start .pre .0 .narrow),
     )
 
@@ -104,11 +106,11 @@ loop-again c =
     let at-loop = at-test .before in
     let at-start = at-loop .before .before .before .before .before in
     let inv = at-loop .loop .inv in
-    let t = turn _ _ (at-start .pre .1) _ (at-test .loop-test .taken) (inv .0) in (
+    let t = stretch _ _ (at-start .pre .1) _ (at-test .loop-test .taken) (inv .0) in (
       omega (arith, inv .0),
       at-load-line .load-line .ensures .same ∙ inv .1,
-      spread-more _ _ _ _ _ _ _ _ _ _ (omega (arith, at-test .loop-test .taken)) (at-start .pre .1 .across) (t .next) (t .source) (t .above)
-          (inv .2) (at-load-line .load-line .ensures) (at-zero-run .zero-run .ensures) (at-store-line .store-line .ensures),
+      spread-more _ _ _ _ _ _ _ _ _ _ _ (omega (arith, at-test .loop-test .taken)) t (inv .2) (at-load-line .load-line .ensures)
+          (at-zero-run .zero-run .ensures) (at-store-line .store-line .ensures),
     )
 
 mul-zero-run : tie.Need-mul-zero-run Inv-loop μ-loop
@@ -149,7 +151,8 @@ zero-run-requires-3 c κs =
 same-length : tie.Need-same-length Inv-loop μ-loop
 same-length c =
     let at-zero-run = c .before .before .before .before .before .before in
-    c .before .before .zero-run3 .ensures .same ∙ at-zero-run .zero-run2 .ensures .same ∙ at-zero-run .before .before .before .loop .inv .2 .same
+    let at-loop = at-zero-run .before .before .before in
+    c .before .before .zero-run3 .ensures .same ∙ at-zero-run .zero-run2 .ensures .same ∙ at-loop .loop .inv .2 .same
 
 returns-2 : tie.Need-returns-2 Inv-loop μ-loop
 returns-2 c =

@@ -37,13 +37,19 @@ returns c =
     holding-extent _ _ _ _ (at-if2 .before .before .extent-of .ensures) (at-if2 .if2 .taken) (c .before .before .if3 .taken)
 
 returns-2 : tie.Need-returns-2
-returns-2 c = let at-start = c .before .before .before .before .before .before .before .before .before in holding-whole _ _ _ (at-start .pre .0) (at-start .pre .1)
+returns-2 c =
+    let at-start = c .before .before .before .before .before .before .before .before .before in
+    holding-whole _ _ _ (at-start .pre .0) (at-start .pre .1)
 
 returns-3 : tie.Need-returns-3
-returns-3 c = let at-start = c .before .before .before .before .before .before .before in holding-whole _ _ _ (at-start .pre .0) (at-start .pre .1)
+returns-3 c =
+    let at-start = c .before .before .before .before .before .before .before in
+    holding-whole _ _ _ (at-start .pre .0) (at-start .pre .1)
 
 returns-4 : tie.Need-returns-4
-returns-4 c = let at-start = c .before .before .before .before in holding-whole _ _ _ (at-start .pre .0) (at-start .pre .1)
+returns-4 c =
+    let at-start = c .before .before .before .before in
+    holding-whole _ _ _ (at-start .pre .0) (at-start .pre .1)
 
 pub box-of-spec : {M : Type 1} → statement M
 box-of-spec =

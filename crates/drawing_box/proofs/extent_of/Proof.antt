@@ -43,10 +43,14 @@ is-wide-requires : tie.Need-is-wide-requires Inv-loop μ-loop
 is-wide-requires c κs = search needs
 
 returns : tie.Need-returns Inv-loop μ-loop
-returns c = let at-start = c .before .before .before .before .before .before .before .before .before in extended-whole _ _ _ (at-start .pre .1)
+returns c =
+    let at-start = c .before .before .before .before .before .before .before .before .before in
+    extended-whole _ _ _ (at-start .pre .1)
 
 loop-less : tie.Need-loop-less Inv-loop μ-loop
-loop-less c = let at-loop-test = c .before .before .before .before in omega (arith, at-loop-test .loop-test .taken)
+loop-less c =
+    let at-loop-test = c .before .before .before .before in
+    omega (arith, at-loop-test .loop-test .taken)
 
 loop-again : tie.Need-loop-again Inv-loop μ-loop
 loop-again c =
