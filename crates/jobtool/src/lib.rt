@@ -1,12 +1,11 @@
 // The shop's tool over job files. A main in C lends it memory and hands its status to the system, which a program of this language cannot.
-mod answers;
 mod help;
 mod moves;
 mod refusals;
 
-use answers::Outcome;
 use comparison::Comparison;
 use motion_floats::Scale;
+use tool_answers::Outcome;
 use tool_words::Command;
 ghost use Prim.Native.Nat.{_≤_};
 ghost use lib.ListN.{length};
@@ -127,7 +126,7 @@ fn answer(
 {
     let command = request.command;
     let scale = request.scale;
-    let outcome = answers::outcome_of(command, scale, request.kind, input, out, a, b, c);
+    let outcome = tool_answers::outcome_of(command, scale, request.kind, input, out, a, b, c);
     match outcome {
         Outcome::Done(n) => deliver(fd, about, request, number, input, out, n),
         Outcome::Refused(refusal) => refusals::say_refusal(from, command, scale, input, refusal),

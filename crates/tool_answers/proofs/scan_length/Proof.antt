@@ -1,9 +1,9 @@
 -- `scan_length` multiplies two bytes.
 use borrow.Author.Needs.{needs}
-use Rattle.jobtool.proofs.answers.scan_length.Statement.{statement}
-use Rattle.jobtool.proofs.answers.scan_length.Tie as tie
-use Rattle.jobtool.proofs.answers.scan_length.Reads as reads
-use Rattle.jobtool.proofs.answers.scan_length.Lts as lts
+use Rattle.tool_answers.proofs.scan_length.Statement.{statement}
+use Rattle.tool_answers.proofs.scan_length.Tie as tie
+use Rattle.tool_answers.proofs.scan_length.Reads as reads
+use Rattle.tool_answers.proofs.scan_length.Lts as lts
 use native.Mathlib.Omega.{arith}
 use Rattle.refusal.proofs.Refusals.{area-fits}
 

@@ -2,11 +2,11 @@
 use borrow.Author.Needs.{needs}
 use mathlib.Core.Path.{sym, _∙_}
 use Rattle.reading.proofs.Answers.{read-accepted}
-use Rattle.jobtool.proofs.answers.info.Statement.{statement}
-use Rattle.jobtool.proofs.answers.info.Tie as tie
-use Rattle.jobtool.proofs.answers.info.Reads as reads
-use Rattle.jobtool.proofs.answers.info.Lts as lts
-use Rattle.jobtool.proofs.answers.summarize.Reads as summarize-reads
+use Rattle.tool_answers.proofs.info.Statement.{statement}
+use Rattle.tool_answers.proofs.info.Tie as tie
+use Rattle.tool_answers.proofs.info.Reads as reads
+use Rattle.tool_answers.proofs.info.Lts as lts
+use Rattle.tool_answers.proofs.summarize.Reads as summarize-reads
 use Rattle.reading.proofs.read.Reads as read-reads
 
 read-requires : tie.Need-read-requires

@@ -1,9 +1,9 @@
 -- `put_start` writes three bytes.
 use borrow.Author.Needs.{needs}
-use Rattle.jobtool.proofs.answers.put_start.Statement.{statement}
-use Rattle.jobtool.proofs.answers.put_start.Tie as tie
-use Rattle.jobtool.proofs.answers.put_start.Reads as reads
-use Rattle.jobtool.proofs.answers.put_start.Lts as lts
+use Rattle.tool_answers.proofs.put_start.Statement.{statement}
+use Rattle.tool_answers.proofs.put_start.Tie as tie
+use Rattle.tool_answers.proofs.put_start.Reads as reads
+use Rattle.tool_answers.proofs.put_start.Lts as lts
 use native.Mathlib.Omega.{arith}
 use lib.ListN.{length-set}
 
