@@ -14,25 +14,26 @@ from maps import BAD, Plate, longer
 # ---- what the peers say about a file
 
 class Told:
-    """A readable file: the relief it draws and its tidied bytes, by SciPy."""
+    """A readable file: the relief it draws, its tidied bytes and the rungs climbed for them, by SciPy."""
 
     def __init__(self, reading):
         self.kind, self.width, self.height, self.plunges = reading[2:]
         self.cells = self.width * self.height
         small = self.cells <= 400
         self.relief = peers.drawn(self.kind, self.width, self.height, self.plunges, small)
-        self.tidied = tidied(self.kind, self.width, self.height, self.relief.tobytes())
+        self.tidied, self.rungs = tidied(self.kind, self.width, self.height, self.relief.tobytes())
 
 
 @functools.lru_cache(maxsize=4096)
 def tidied(kind, width, height, relief):
     plate = Plate(np.frombuffer(relief, np.uint8).reshape(height, width), kind)
     climb = peers.rungs(plate.relief, kind, plate.by_balls)
-    return files.encode(kind, width, height, peers.listing(climb, peers.residues(climb, kind)))
+    return files.encode(kind, width, height, peers.listing(climb, peers.residues(climb, kind))), len(climb) - 1
 
 
-def plunges_in(file):
-    return (len(file) - 13) // 7
+def listed(file, rungs):
+    """The answer of a listing: the file's length, its plunges, and the rungs climbed."""
+    return 0, 0, len(file), (len(file) - 13) // 7, rungs
 
 
 def first_unlike(file, other):
@@ -45,12 +46,12 @@ def compare_listing(judge, rng, plate, climb, remains):
     """The listing of a scan, with output exact, longer and too short; drawn, tidied and checked again. Gives back its bytes."""
     file = files.encode(plate.kind, plate.width, plate.height, peers.listing(climb, remains))
     free, works = [Free(plate.cells)] * 2, [plate.blank(rng), plate.blank(rng)]
-    done = (0, 0, len(file), plunges_in(file))
+    done = listed(file, len(climb) - 1)
     got = judge.call("listing, SciPy", "haru_list", plate.given(rng) + [Blank(len(file)), *works], done, [file, *free])
     judge.same("listing, OpenCV", got, [peers.cv_listing(plate.relief, plate.kind, "plate").tobytes(), *free])
     judge.call("listing, longer output", "haru_list", plate.given(rng) + [Blank(len(file) + 1 + longer(rng)), *works], done, [file, *free])
     for short in {len(file) - 1, int(rng.integers(len(file)))}:
-        judge.call("listing, short output", "haru_list", plate.given(rng) + [Blank(short), *works], (5, len(file), 0, 0), [b"", *free])
+        judge.call("listing, short output", "haru_list", plate.given(rng) + [Blank(short), *works], (5, len(file), 0, 0, 0), [b"", *free])
     return file
 
 
@@ -70,7 +71,7 @@ def compare_listing_arguments(judge, rng, many):
         cells = width * height if 0 <= width <= 240 and 0 <= height <= 240 else 9
         lengths = [max(0, cells + int(rng.choice([0, 0, 0, -1, 1, -cells]))) for _ in range(3)]
         relief = rng.integers(0, 3, lengths[0]).astype(np.uint8).tobytes()
-        file = b""
+        file, rungs = b"", 0
         if kind not in (4, 8):
             number = 1
         elif not (1 <= width <= 240 and 1 <= height <= 240):
@@ -78,12 +79,12 @@ def compare_listing_arguments(judge, rng, many):
         elif min(lengths) < cells:
             number = 4
         else:
-            file = tidied(kind, width, height, relief[:cells])
+            file, rungs = tidied(kind, width, height, relief[:cells])
             number = 0
         out = max(0, len(file) + int(rng.choice([0, 0, 1, -1, -13, 30])))
         if number == 0 and out < len(file):
             number = 5
-        answer = (0, 0, len(file), plunges_in(file)) if number == 0 else (number, len(file) if number == 5 else 0, 0, 0)
+        answer = listed(file, rungs) if number == 0 else (number, len(file) if number == 5 else 0, 0, 0, 0)
         works = Free(cells) if number in (0, 5) else b""
         judge.tell(("arguments", (kind, width, height, lengths, out)))
         judge.call("listing, faults in the arguments", "haru_list",
@@ -111,7 +112,7 @@ def compare_refused(judge, rng, file, reading):
         return Blank(rng.choice([0, 1, 8, 9, 64]))
     refused = (reading.number, 0, reading.place)
     judge.call("drawing, file refused", "haru_draw", [file, blank()], refused, [b""])
-    judge.call("tidying, file refused", "haru_tidy", [file, blank(), blank(), blank(), blank()], (reading.number, reading.place, 0, 0), [b""] * 4)
+    judge.call("tidying, file refused", "haru_tidy", [file, blank(), blank(), blank(), blank()], (reading.number, reading.place, 0, 0, 0), [b""] * 4)
     judge.call("tidy check, file refused", "haru_check", [file, blank(), blank(), blank()], refused, [b""] * 3)
     scale = motions.some_scale(rng)
     judge.call("motions, file refused", "haru_motions", [file, int(rng.integers(3)), Scale(*scale)],
@@ -126,7 +127,7 @@ def compare_readable(judge, rng, file, told):
         return Blank(cells + longer(rng))
 
     judge.call("drawing, SciPy", "haru_draw", [file, work()], (0, 0, 0), [relief])
-    done = (0, 0, len(tidy), plunges_in(tidy))
+    done = listed(tidy, told.rungs)
     judge.call("tidying, SciPy", "haru_tidy", [file, Blank(len(tidy) + longer(rng)), work(), work(), work()], done, [tidy, *free])
     answer = (0, 0, 0) if file == tidy else (12, 0, first_unlike(file, tidy))
     judge.call("tidy check, tidy" if file == tidy else "tidy check, not tidy", "haru_check", [file, work(), work(), work()], answer, free)
@@ -148,10 +149,10 @@ def compare_short(judge, rng, file, told):
     judge.call("drawing, short output", "haru_draw", [file, Blank(cells - 1)], (4, 0, 0), [b""])
     works = [Blank(cells + longer(rng)) for _ in range(3)]
     for length in {needed - 1, int(rng.integers(needed))}:
-        judge.call("tidying, short output", "haru_tidy", [file, Blank(length), *works], (5, needed, 0, 0), [b""] + [Free(cells)] * 3)
+        judge.call("tidying, short output", "haru_tidy", [file, Blank(length), *works], (5, needed, 0, 0, 0), [b""] + [Free(cells)] * 3)
     for at in range(3):
         for length in (needed, int(rng.integers(needed))):
-            judge.call("tidying, short work buffer", "haru_tidy", [file, Blank(length), *short(at)], (4, 0, 0, 0), [b""] * 4)
+            judge.call("tidying, short work buffer", "haru_tidy", [file, Blank(length), *short(at)], (4, 0, 0, 0, 0), [b""] * 4)
         judge.call("tidy check, short work buffer", "haru_check", [file, *short(at)], (4, 0, 0), [b""] * 3)
 
 

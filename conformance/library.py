@@ -13,7 +13,7 @@ class Job(ctypes.Structure):
 
 
 class ListAnswer(ctypes.Structure):
-    _fields_ = [("number", c_uint32), ("place", c_size_t), ("bytes", c_size_t), ("plunges", c_size_t)]
+    _fields_ = [("number", c_uint32), ("place", c_size_t), ("bytes", c_size_t), ("plunges", c_size_t), ("rungs", c_size_t)]
 
 
 class Scale(ctypes.Structure):

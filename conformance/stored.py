@@ -41,12 +41,12 @@ def dome():
 # ---- answers
 
 def listed(relief, kind):
-    """The plunges of a relief; that they draw it is seen by the way."""
+    """The plunges of a relief, and the rungs climbed for them; that they draw it is seen by the way."""
     climb = peers.rungs(relief, kind, by_balls=False)
     plunges = peers.listing(climb, peers.residues(climb, kind))
     height, width = relief.shape
     assert (peers.drawn(kind, width, height, plunges, by_balls=False) == relief).all()
-    return plunges
+    return plunges, len(climb) - 1
 
 
 # ---- the text
@@ -66,9 +66,9 @@ def of_list(plunges):
 
 def of_block(name, kind, relief):
     height, width = relief.shape
-    plunges = listed(relief, kind)
+    plunges, rungs = listed(relief, kind)
     file = files.encode(kind, width, height, plunges)
-    extent = f"listed {len(file)} {len(plunges)}"
+    extent = f"listed {len(file)} {len(plunges)} {rungs}"
     assert len(file) == 13 + 7 * len(plunges) < LONG and files.read(file).number == 0
     return [
         f"block: {name}",
@@ -89,7 +89,7 @@ def of_sides(kind, width, height):
 def worked():
     kind, width, height, *depths = INPUT
     relief = np.array(depths, np.uint8).reshape(height, width)
-    plunges = listed(relief, kind)
+    plunges, _ = listed(relief, kind)
     assert [f"plate {kind} {width} {height}"] + of_list(plunges) == TEXT and files.encode(kind, width, height, plunges) == FILE
     return of_block("worked example", kind, relief)
 

@@ -55,6 +55,11 @@ def listed(kind, relief):
     return [tuple(int(n) for n in p) for p in peers.listing(climb, peers.residues(climb, kind))]
 
 
+def rungs_told(words, kind, relief):
+    """The line that --rungs asks for."""
+    return f"rungs {len(peers.rungs(relief, kind, by_balls=False)) - 1}\n".encode() if "--rungs" in words else b""
+
+
 def drawn(job):
     return peers.drawn(job.kind, job.width, job.height, job.plunges, by_balls=False)
 
@@ -155,13 +160,13 @@ def scale_refusal(name, pitch, x, y):
 
 # ---- commands
 
-def list_scan(name, data):
+def list_scan(words, name, data):
     kind, width, height = (list(data[:3]) + [0, 0, 0])[:3]
     refusal = scan_refusal(name, data)
     if refusal:
         return refusal
     relief = np.frombuffer(data[3:3 + width * height], np.uint8).reshape(height, width)
-    return Told(files.encode(kind, width, height, listed(kind, relief)), b"", DONE)
+    return Told(files.encode(kind, width, height, listed(kind, relief)), rungs_told(words, kind, relief), DONE)
 
 
 def scan_picture(name, data, kind):
@@ -190,7 +195,7 @@ def check(name, data, job):
 def wanted(words, data, name=None):
     """What a command should write of one input."""
     if words[0] == "list":
-        return list_scan(name, data)
+        return list_scan(words, name, data)
     if words[0] == "scan":
         return scan_picture(name, data, int(words[2]) if len(words) > 1 else 8)
     if words[0] == "picture":
@@ -203,7 +208,9 @@ def wanted(words, data, name=None):
     if words[0] == "motions":
         scale = [number_of(text) for text in words[1:]]
         return Told(moved(job.plunges, *scale), b"", DONE) if motions.scale_is_good(*scale) else scale_refusal(name, *scale)
-    made = {"draw": lambda: bytes([job.kind, job.width, job.height]) + drawn(job).tobytes(), "tidy": lambda: tidied(job),
+    if words[0] == "tidy":
+        return Told(tidied(job), rungs_told(words, job.kind, drawn(job)), DONE)
+    made = {"draw": lambda: bytes([job.kind, job.width, job.height]) + drawn(job).tobytes(),
             "show": lambda: job_text(job), "info": lambda: test_summary.text_of(data).encode()}
     return Told(made[words[0]](), b"", DONE)
 

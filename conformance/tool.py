@@ -167,21 +167,22 @@ def one_scan(run, rng, index):
     height, width = relief.shape
     scan = bytes([kind, width, height]) + relief.tobytes()
     file = run.pipe(["list"], scan + bytes(int(rng.integers(0, 3))))
+    run.pipe(["list", "--rungs"], scan)
     job = files.read(file)
     mixed = [job.plunges[i] for i in rng.integers(0, max(1, len(job.plunges)), 2 * len(job.plunges))]
     mixed = files.encode(kind, width, height, mixed)
-    of_job = [["draw"], ["tidy"], ["check"], ["show"], ["info"], ["picture"], ["motions", *some_scale(rng)]]
+    of_job = [["draw"], ["tidy"], ["tidy", "--rungs"], ["check"], ["show"], ["info"], ["picture"], ["motions", *some_scale(rng)]]
     for data in (file, mixed):
         for words in of_job:
             run.pipe(words, data)
     bad = damaged(rng, mixed)
-    for words in [["list"], ["scan"], *of_job]:
+    for words in [["list"], ["list", "--rungs"], ["scan"], *of_job]:
         (run.pipe if index % 10 else run.name)(words, bad)
     pictures(run, rng, kind, relief)
     if index % 10 == 0:
         for words in of_job:
             run.name(words, mixed)
-        for words in (["list"], ["picture"]):
+        for words in (["list"], ["list", "--rungs"], ["picture"]):
             run.name(words, scan)
         run.name(["scan"], told.picture_of(width, height, relief.tobytes()))
     if index % 5 == 0:
@@ -210,6 +211,9 @@ def several_inputs(run, named):
 
 def by_hand(run):
     run.hold("worked example", run.start(["show"], run.start(["list"], SCAN).out), Told(b"plate 8 3 3\n0 1 1 9\n1 1 1 4\ntotal 2\n", b"", DONE))
+    run.hold("rungs", run.start(["list", "--rungs"], SCAN), Told(TIDY, b"rungs 2\n", DONE))
+    run.hold("rungs, all 0", run.start(["list", "--rungs"], bytes([8, 3, 3]) + bytes(9)), Told(files.encode(8, 3, 3, []), b"rungs 0\n", DONE))
+    run.hold("rungs, refused", b"rungs" in run.start(["tidy", "--rungs"], TIDY[:-1]).said, False)
     run.hold("a picture", run.start(["picture"], SCAN).out, b"P5\n3 3\n255\n\4\4\4\4\x09\4\4\4\4")
     run.hold("info", run.start(["info"], TIDY).out,
              b"plate 3 by 3, kind 8\nplunges 2\nreach 0: plunges 1, depths 9 to 9\nreach 1: plunges 1, depths 4 to 4\n"
@@ -524,7 +528,9 @@ def split(lines):
 WRONG = [[], [""], ["scan", "--kind", "", "picture"]] + split(
     "paint; lis; listlistlistlistlistlist; -o; --kind; list a b; draw a b; tidy a b; scan a b; picture a b; same; same in; same in in in; motions; motions 1; "
     "motions 1 2; motions 1 2 3 in in; tidy in -o; tidy -o a -o b in; tidy in -x; tidy --output a in; tidy --kind 4 in; scan --kind; scan --kind 5 picture; "
-    "scan --kind 44 picture; scan --kind 4 --kind 4 picture; list --help; check in --version; list -h; "
+    "scan --kind 44 picture; scan --kind 4 --kind 4 picture; "
+    "draw --rungs in; check in --rungs; show --rungs in; info --rungs in; same --rungs in in; motions 1 2 3 --rungs in; scan --rungs picture; "
+    "picture scan --rungs; list --rungs --rungs scan; tidy in --rungs --rungs; tidy --rung in; --rungs; list --help; check in --version; list -h; "
     "check --a-long-word-that-looks-like-an-option-and-is-none in")
 
 
@@ -557,7 +563,7 @@ def row_help(run):
     run.hold("one help", len(set(texts)), 1)
     for command in ("list", "draw", "tidy", "check", "show", "info", "same", "motions", "scan", "picture"):
         run.hold(("help", command), f"\n  jobtool {command} ".encode() in texts[0].out, True)
-    for word in (b"-o OUT", b"--kind", b"HALF_PITCH COLUMN_OFFSET ROW_OFFSET", b"standard input", b"0 done", b"1 refused", b"2 trouble"):
+    for word in (b"-o OUT", b"--kind", b"--rungs", b"HALF_PITCH COLUMN_OFFSET ROW_OFFSET", b"standard input", b"0 done", b"1 refused", b"2 trouble"):
         run.hold(("help", word), word in texts[0].out, True)
     with open("/dev/full", "wb") as out:
         run.hold("help that cannot be written", run.start(["--help"], stdout=out), trouble(b"standard output", "No space left on device"))

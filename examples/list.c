@@ -18,6 +18,6 @@ int main(void)
         const uint8_t *field = file + 6 + 7 * i;
         printf("column %u row %u reach %u depth %u\n", field[3], field[4], field[5], field[6]);
     }
-    printf("%zu plunges in %zu bytes\n", answer.plunges, answer.bytes);
+    printf("%zu plunges in %zu bytes, %zu rungs climbed\n", answer.plunges, answer.bytes, answer.rungs);
     return 0;
 }

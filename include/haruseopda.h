@@ -106,12 +106,15 @@ haru_job haru_read(const uint8_t *file, size_t file_len);
 /* Draws a file into out, a relief: at each cell the highest depth among plunges whose ball holds it, 0 if none. The file's refusals, 4. */
 haru_answer haru_draw(const uint8_t *file, size_t file_len, uint8_t *out, size_t out_len);
 
-/* bytes: how long the answer's file is, 13 + 7 * plunges. Both 0 on a refusal. */
+/* bytes: how long the answer's file is, 13 + 7 * plunges. rungs: how many rungs were climbed, the smallest number of a rung that is 0 everywhere: 0 for
+   a relief of all 0, else one more than the largest reach listed, and at most (the smaller side + 1) / 2. It is no part of the file. All three are 0
+   on a refusal. */
 typedef struct {
     uint32_t number;
     size_t place;
     size_t bytes;
     size_t plunges;
+    size_t rungs;
 } haru_list_answer;
 
 /* Lists a relief as a file into out. Refusals 1, 2, 4, 5. Work buffers a and b, each of width * height bytes. */

@@ -14,6 +14,7 @@ How each answer is computed (cells off the plate have depth 0 throughout):
            and the sentence of document 01 with erosions (its rungs) as the lowest depth over every cell of the ball. All plates: that
            sentence with erosions from windows, again and again, and the list must draw the relief. All ways are compared.
   reading  field by field, as the table of refusals says.
+  rungs    how many it takes until no depth is above 0.
   tidying  drawing, then listing. The check compares the bytes with the tidied file's.
 """
 import sys
@@ -72,40 +73,52 @@ def listed_as_maximal(kind, w, h, plate):
 
 
 def listed_by_residues(kind, w, h, plate):
-    before, found = bytes(plate), []
-    for k in range(1, LAST_EROSION + 1):
-        if not any(before):
-            break
+    """The plunges, and the rungs climbed: the smallest number of a rung that is 0 everywhere."""
+    before, found, rungs = bytes(plate), [], 0
+    while any(before):
+        rungs += 1
         after = eroded(kind, w, h, before)
         if w * h <= SMALL:
-            assert after == eroded_by_balls(kind, w, h, plate, k)
+            assert after == eroded_by_balls(kind, w, h, plate, rungs)
         high = highest_near(kind, w, h, after)
         for i in range(w * h):
             if before[i] > high[i]:
-                found.append((i % w, i // w, k - 1, before[i]))
+                found.append((i % w, i // w, rungs - 1, before[i]))
         before = after
-    return found
+    assert rungs <= min(LAST_EROSION, (min(w, h) + 1) // 2)
+    return found, rungs
 
 
 LISTINGS = {}
 
 
-def listed(kind, w, h, plate):
+def climbed(kind, w, h, plate):
+    """The plunges of a relief, and the rungs climbed for them."""
     key = (kind, w, h, bytes(plate))
     if key not in LISTINGS:
-        found = listed_by_residues(kind, w, h, plate)
+        found, rungs = listed_by_residues(kind, w, h, plate)
         assert found == sorted(found, key=lambda p: (p[2], p[1], p[0]))
         if w * h <= SMALL:
             assert found == listed_as_maximal(kind, w, h, plate)
         assert drawn(kind, w, h, found) == list(plate)
-        LISTINGS[key] = found
+        LISTINGS[key] = found, rungs
     return LISTINGS[key]
+
+
+def listed(kind, w, h, plate):
+    return climbed(kind, w, h, plate)[0]
 
 
 # ---- files
 
+def list_of(kind, w, h, plate):
+    """The file of a relief's list, and the rungs climbed."""
+    plunges, rungs = climbed(kind, w, h, plate)
+    return file_of(kind, w, h, plunges), rungs
+
+
 def tidied(kind, w, h, plunges):
-    return file_of(kind, w, h, listed(kind, w, h, drawn(kind, w, h, plunges)))
+    return list_of(kind, w, h, drawn(kind, w, h, plunges))[0]
 
 
 def first_unlike(one, other):
@@ -135,11 +148,11 @@ def draw_text(data, output):
         return "draw : " + refused(*e.args) + "rest kept\n"
 
 
-def file_text(data, output):
+def file_text(data, rungs, output):
     """What is printed of an answer that is a file."""
     if output < len(data):
         raise Refused(5, len(data))
-    return f"listed {len(data)} {(len(data) - 13) // 7}\n" + shown(data) + "rest kept\nwork kept\n"
+    return f"listed {len(data)} {(len(data) - 13) // 7} {rungs}\n" + shown(data) + "rest kept\nwork kept\n"
 
 
 def list_file(r, relief):
@@ -150,12 +163,12 @@ def list_file(r, relief):
         raise Refused(2, 0)
     if min(len(relief), r["a"], r["b"]) < w * h:
         raise Refused(4, 0)
-    return file_of(kind, w, h, listed(kind, w, h, relief[:w * h]))
+    return list_of(kind, w, h, relief[:w * h])
 
 
 def list_text(r, relief):
     try:
-        return "list : " + file_text(list_file(r, relief), r["output"])
+        return "list : " + file_text(*list_file(r, relief), r["output"])
     except Refused as e:
         return "list : " + refused(*e.args) + "rest kept\nwork kept\n"
 
@@ -165,7 +178,7 @@ def tidy_text(data, r):
         kind, w, h, plunges = read(data)
         if min(r["a"], r["b"], r["c"]) < w * h:
             raise Refused(4, 0)
-        return "tidy : " + file_text(tidied(kind, w, h, plunges), r["output"])
+        return "tidy : " + file_text(*list_of(kind, w, h, drawn(kind, w, h, plunges)), r["output"])
     except Refused as e:
         return "tidy : " + refused(*e.args) + "rest kept\nwork kept\n"
 
@@ -206,7 +219,7 @@ def chain_text(r):
     relief = made(r)
     text = list_text(r, relief)
     if "refused" not in text:
-        text += each_text(list_file(r, relief), r)
+        text += each_text(list_file(r, relief)[0], r)
     return text
 
 
@@ -250,7 +263,7 @@ def add_relief(op, kind, w, h, literal=None, pattern=CONSTANT, seed=5, surplus=0
     if output is None:
         r = dict(kind=kind, w=w, h=h, pattern=pattern, seed=seed, source=relief, a=cells, b=cells, literal=bytes(literal or b""))
         try:
-            output = len(list_file(r, made(r))) + surplus
+            output = len(list_file(r, made(r))[0]) + surplus
         except Refused:
             output = 40
         if op == CHAIN:

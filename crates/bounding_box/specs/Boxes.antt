@@ -103,6 +103,12 @@ pub record Topped (w height : ℕ) (m columns rows : List ℕ) : Type 0 where
 pub record Bare (l : List ℕ) (from to : ℕ) : Type 0 where
   pub none : (i : ℕ) → from ≤ i → i < to → getD l i 0 ≡ 0
 
+-- r is the first of n places with a number above 0; n if there is none
+pub record FirstSet (n : ℕ) (l : List ℕ) (r : ℕ) : Type 0 where
+  pub within : r ≤ n
+  pub under : Bare l 0 r
+  pub set : r < n → 1 ≤ getD l r 0
+
 -- a span of the first n places, with some of them, holds them all
 pub record Spans (n : ℕ) (s : Span) (l : List ℕ) : Type 0 where
   pub some : 1 ≤ s .number

@@ -9,7 +9,7 @@ ghost use Rattle.refusal.specs.Refusals.{largestSide};
 ghost use Rattle.refusal.specs.Sides.{Sides};
 ghost use Rattle.buffers.specs.Fill.{Filled};
 ghost use Rattle.bounding_box.specs.Boxes.{Within, BareOutside, Copied, Copyable, Cropped, Croppable, Spread};
-ghost use Rattle.bounding_box.specs.Boxes.{Joinable, Joined, Plates, Topped, Bare, Spans};
+ghost use Rattle.bounding_box.specs.Boxes.{Joinable, Joined, Plates, Topped, Bare, FirstSet, Spans};
 
 // A number for each column or for each row is held in an array of this length.
 const SIDE: usize = refusal::LARGEST_SIDE as usize;
@@ -61,9 +61,9 @@ fn join_rows(head: Head, map: &[u8], columns: &mut [u8; SIDE], rows: &mut [u8; S
 }
 
 // The first of n places with a number above 0; n if there is none.
-fn first_set(numbers: &[u8; SIDE], n: usize) -> usize
-    requires { ⌜ n ≤ largestSide ⌝ }
-    ensures { λ r. ⌜ (r ≤ n) × Bare (now (numbers .entry)) 0 r ⌝ }
+pub fn first_set(numbers: &[u8], n: usize) -> usize
+    requires { ⌜ n ≤ length (now numbers) ⌝ }
+    ensures { λ r. ⌜ FirstSet n (now (numbers .entry)) r ⌝ }
 {
     let mut first = 0;
     while first < n {

@@ -21,8 +21,8 @@ ofRead (Readable j) = record { number = 0; kind = kindByte (j .head .kind); widt
 ofRead (Unreadable r) = record { number = r .number; kind = 0; width = 0; height = 0; place = r .place; plunges = 0 }
 
 abbrev pub ofList : ListAnswer → HaruListAnswer
-ofList (Listed e) = record { number = 0; place = 0; bytes = e .bytes; plunges = e .plunges }
-ofList (Unlisted r) = record { number = r .number; place = r .place; bytes = 0; plunges = 0 }
+ofList (Listed e) = record { number = 0; place = 0; bytes = e .bytes; plunges = e .plunges; rungs = e .erosions }
+ofList (Unlisted r) = record { number = r .number; place = r .place; bytes = 0; plunges = 0; rungs = 0 }
 
 -- the inner call's promise holds of an answer, and the struct says that answer
 abbrev pub ToldList : (ListAnswer → Type 0) → HaruListAnswer → Type 0

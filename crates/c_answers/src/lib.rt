@@ -85,13 +85,14 @@ pub struct HaruJob {
     pub plunges: usize,
 }
 
-// How long an answer's file is and how many plunges it has, or a refusal's number and place.
+// How long an answer's file is, how many plunges it has and how many rungs were climbed, or a refusal's number and place.
 #[repr(C)]
 pub struct HaruListAnswer {
     pub number: u32,
     pub place: usize,
     pub bytes: usize,
     pub plunges: usize,
+    pub rungs: usize,
 }
 
 pub fn of_read(answer: ReadAnswer) -> HaruJob
@@ -130,12 +131,14 @@ pub fn of_list(answer: ListAnswer) -> HaruListAnswer
             place: 0,
             bytes: extent.bytes,
             plunges: extent.plunges,
+            rungs: extent.erosions,
         },
         ListAnswer::Unlisted(r) => HaruListAnswer {
             number: r.number as u32,
             place: r.place,
             bytes: 0,
             plunges: 0,
+            rungs: 0,
         },
     }
 }

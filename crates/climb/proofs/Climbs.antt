@@ -1,12 +1,11 @@
--- Laws of a climb: a region settled on, a residue's first place as a new beginning, one run more, and the whole listing at the end.
+-- Laws of a climb: a residue's first place as a new beginning, one run more, and the whole listing at the end.
 use mathlib.Core.Path.{_≡_, refl, sym, ap, ap₂, _∙_, subst}
 use mathlib.Core.Logic.{_⊎_, inl, inr}
 use mathlib.Core.Bool.{Bool, true, false, cond}
-use mathlib.Core.List.{List, [], _∷_, _++_, map, map-append, append-assoc, append-nil}
+use mathlib.Core.List.{List, [], _∷_, _++_, map, map-append, append-assoc}
 use Prim.Native.Nat.{ℕ, _+_, _*_, _-_, _≤_, _<_}
 use native.Mathlib.Omega.{arith}
 use native.Mathlib.Decide.{decLe}
-use native.Mathlib.Nat.{mul-le-mul}
 use lib.Dec.{eqb}
 use lib.ListN.{length, getD}
 use Rattle.geometry.specs.declared.Head.{Head}
@@ -16,137 +15,27 @@ use Rattle.geometry.specs.Lists.{gather}
 use Rattle.geometry.specs.Plane.{Cell, cell}
 use Rattle.geometry.specs.Plate.{On, area, at}
 use Rattle.theory.specs.Erosion.{erosion}
+use Rattle.theory.specs.Climbed.{Bare, erosionCount}
 use Rattle.theory.specs.Listing.{listing}
 use Rattle.theory.proofs.Plate.{on-or-off, at-cell}
-use Rattle.theory.proofs.Erosion.{erosion-off}
+use Rattle.theory.proofs.Erosion.{erosion-off, erosion-top}
+use Rattle.theory.proofs.Climbed.{count-first, count-bound}
 use Rattle.theory.proofs.Lists.{gather-same}
 use Rattle.refusal.specs.Refusals.{largestSide, largestErosion}
-use Rattle.refusal.specs.Sides.{Sides}
-use Rattle.buffers.specs.Fill.{PlateOnly}
-use Rattle.bounding_box.specs.declared.Bounds.{Bounds}
-use Rattle.bounding_box.specs.Boxes.{Within, BareOutside, Copied, Copyable}
-use Rattle.bounding_box.proofs.Boxing.{within-croppable}
 use Rattle.erosion_series.proofs.Pairs.{kept-more}
-use Rattle.residue_series.specs.declared.Stand.{Stand}
 use Rattle.residue_series.specs.declared.Run.{Run}
 use Rattle.residue_series.specs.Plunges.{listedReach, soFar, plungeAt, onMark, marksTo}
-use Rattle.residue_series.specs.Stands.{Bare, Due, Midway, Level, listedTo, left, leftAt, runListed, Started, Taken, TakenOf}
+use Rattle.residue_series.specs.Stands.{Due, Last, Midway, Level, listedTo, left, leftAt, runListed, Taken, TakenOf}
 use Rattle.residue_series.proofs.Plunges.{erosion-north, row-above, so-far-next}
 use Rattle.residue_series.proofs.Stands.{standing-rest}
 use Rattle.climb.specs.declared.Region.{Region}
 use Rattle.climb.specs.declared.Climb.{Climb}
 use Rattle.climb.specs.declared.Found.{Found}
-use Rattle.climb.specs.Regions.{moved, RegionOf}
-use Rattle.climb.specs.Climbs.{plungeOf, foundPlunges, FoundMarks, RegionIn, listedWith, Climbing, leftOf}
-use Rattle.climb.specs.Climbs.{OnPlates, partIn, RegionPart, Settleable, Settled, Begun, Turnable, Turning, StepOf, Narrowed, Stepped}
-use Rattle.climb.proofs.Regions.{gather-map, region-erosion, region-reaches, region-listing, region-later, region-whole, region-cropped}
-
--- only the bytes of a smaller plate are others
-pub plate-only : (p p′ : Head) (old new : List ℕ) → area p′ ≤ area p → PlateOnly p′ old new → PlateOnly p old new
-plate-only p p′ old new h k = record { same = k .same; surplus = λ n l. k .surplus n (omega arith) }
-
--- a region has no more cells than the plate that it lies on
-pub region-area : (p : Head) (m : List ℕ) (k dx dy : ℕ) (p′ : Head) (m′ : List ℕ) → RegionOf p m k dx dy p′ m′ → area p′ ≤ area p
-region-area p m k dx dy p′ m′ r =
-    let a : p′ .height ≤ p .height = let h = r .high in omega arith in
-    let b : p′ .width ≤ p .width = let h = r .wide in omega arith in
-    mul-le-mul a b
-
--- ---- the part of a region that is not bare, and a climb that begins on it
-
--- the part in a box outside of which the region is bare
-pub parts : (r : Region) (src a a′ : List ℕ) (x : Bounds) → OnPlates r → Within (r .head) x → BareOutside (r .head) x src
-    → Copied (r .head .width) x src a a′ → RegionPart r src a a′ (partIn r x)
-parts r src a a′ x on w bare c =
-    let across = w .across in
-    let down = w .down in
-    let narrow = on .sides .narrow in
-    let low = on .sides .low in
-    let h : x .height ≤ r .head .height = omega arith in
-    let v : x .width ≤ r .head .width = omega arith in
-    let s : x .height * x .width ≤ area (r .head) = mul-le-mul h v in
-    record {
-      sides = record { wide = w .wide; narrow = omega arith; tall = w .tall; low = omega arith };
-      smaller = s;
-      same = refl;
-      only = record { same = c .same; surplus = λ n h. c .surplus n (omega arith) };
-      part = λ p m i. region-cropped p m (r .erosion) (r .column) (r .row) (r .head) src i (x .column) (x .row) _ a′ refl (w .across) (w .down)
-          (bare .west) (bare .east) (bare .north) (bare .south) (c .holds);
-    }
-
--- a box of a region fits another buffer
-pub part-copyable : (p : Head) (x : Bounds) (src a : List ℕ) → Sides p → Within p x → area p ≤ length src → area p ≤ length a → Copyable (p .width) x src a
-part-copyable p x src a sides w long room =
-    let across = w .across in
-    let down = w .down in
-    let h : x .height ≤ p .height = omega arith in
-    let v : x .width ≤ p .width = omega arith in
-    record { box = within-croppable p x src sides w long; room = omega (arith, mul-le-mul h v, room) }
-
--- a climb can begin on the part
-pub part-settleable : (r r′ : Region) (src a a′ b : List ℕ) → RegionPart r src a a′ r′ → r .erosion < largestErosion → area (r .head) ≤ length a
-    → area (r .head) ≤ length b → Settleable r′ a′ b
-part-settleable r r′ src a a′ b c some first second =
-    record {
-      sides = c .sides;
-      some = omega (arith, some, c .same);
-      first = omega (arith, first, c .smaller, c .only .same);
-      second = omega (arith, second, c .smaller);
-    }
-
--- a climb that begins
-pub settles : (plate : Head) (r : Region) (limit : ℕ) (a b b′ : List ℕ) (s : Stand) → Settleable r a b → limit ≡ largestErosion - r .erosion
-    → Started (r .head) limit a b b′ s → Settled plate r a b b′ (record { plate = plate; region = r; stand = s })
-settles plate r limit a b b′ s asks is t =
-    record {
-      second = t .kept;
-      climbs = λ p m e sides due i. record {
-        plate = e;
-        sides = sides;
-        relief = a;
-        region = i;
-        due = due;
-        limit = omega (arith, asks .some, t .first .0);
-        stands = λ e. t .stands;
-        listed = sym (
-            ap (λ l. gather (r .erosion) 0 (listedReach p m) ++ map (moved (r .erosion) (r .column) (r .row)) l) (t .listed)
-            ∙ append-nil (gather (r .erosion) 0 (listedReach p m))
-            );
-      };
-      left = λ places. fresh places;
-    }
-  where
-    fresh : (places : ℕ) → left places (r .head) s ≤ (largestErosion - r .erosion) * (places + 1)
-    fresh places =
-        let l : s .limit + 1 - s .number ≡ largestErosion - r .erosion = omega (arith, t .first .0, t .first .1) in
-        subst (λ (e : Bool). cond e (leftAt places (r .head) (s .limit) (s .number) (s .place)) 0 ≤ (largestErosion - r .erosion) * (places + 1))
-        (sym (t .first .3)) (omega (arith, ap (λ (k : ℕ). k * (places + 1)) l))
-
--- a climb that begins on a region's part climbs on from the region
-module _ (plate : Head) (r r′ : Region) (src a a′ b b′ : List ℕ) (c : Climb) (part : RegionPart r src a a′ r′) (s : Settled plate r′ a′ b b′ c) where
-  pub part-second : PlateOnly (r .head) b b′
-  part-second = plate-only (r .head) (r′ .head) b b′ (part .smaller) (s .second)
-
-  pub part-climbs : (p : Head) (m : List ℕ) → plate ≡ p → Sides p → Due p m (r .erosion + 1) → RegionIn p m r src
-      → Climbing p m c a′ b′ (gather (r .erosion) 0 (listedReach p m))
-  part-climbs p m e sides due i =
-      subst (λ (k : ℕ). Climbing p m c a′ b′ (gather k 0 (listedReach p m))) (part .same)
-      (s .climbs p m e sides (subst (λ (k : ℕ). Due p m (k + 1)) (sym (part .same)) due) (part .part p m i))
-
-  pub part-left : (places : ℕ) → left places (c .region .head) (c .stand) ≤ (largestErosion - r .erosion) * (places + 1)
-  part-left places =
-      subst (λ (k : ℕ). left places (c .region .head) (c .stand) ≤ (largestErosion - k) * (places + 1)) (part .same) (s .left places)
-
--- ---- a climb before its first run
-
-pub begins : (p : Head) (m a a′ b b′ : List ℕ) (r′ : Region) (c : Climb) → Sides p
-    → RegionPart (record { head = p; column = 0; row = 0; erosion = 0 }) m a a′ r′ → Settled p r′ a′ b b′ c → Begun p m a a′ b b′ c
-begins p m a a′ b b′ r′ c sides part s =
-    record {
-      first = part .only;
-      second = part-second p _ r′ m a a′ b b′ c part s;
-      climbs = part-climbs p _ r′ m a a′ b b′ c part s p m refl sides (λ l. absurd (omega arith)) (region-whole p m m (λ o. refl));
-    }
+use Rattle.climb.specs.Regions.{moved}
+use Rattle.climb.specs.Climbs.{plungeOf, foundPlunges, FoundMarks, RegionIn, listedWith, erosionsTaken, Climbing, leftOf}
+use Rattle.climb.specs.Climbs.{OnPlates, RegionPart, Settleable, Settled, Turnable, Turning, StepOf, Narrowed, Stepped}
+use Rattle.climb.proofs.Regions.{gather-map, region-bare, bare-region, region-reaches, region-listing, region-later}
+use Rattle.climb.proofs.Beginnings.{plate-only, region-area, part-settleable, part-second, part-climbs, part-left}
 
 -- ---- a residue's first place as a new beginning
 
@@ -177,18 +66,10 @@ module _ (p : Head) (m : List ℕ) (c : Climb) (a b : List ℕ) (done : List Plu
 
   -- a climb goes on only to a residue that is due: it ends at the first rung without depth
   pub climbing-due : c .stand .more ≡ true → Due p m (c .region .erosion + k)
-  climbing-due e l z = go (decLe 2 k)
-    where
-      some : 1 ≤ k
-      some = climbing-numbers e .0
-
-      go : Dec (2 ≤ k) → ⊥
-      go (yes h) =
-          let i : c .region .erosion + k - 1 ≡ c .region .erosion + (k - 1) = omega arith in
-          g .stands e .due h (λ o. region-erosion p m _ _ _ _ (g .relief) (g .region) (k - 1) o ∙ subst (Bare p m) i z _)
-      go (no h) =
-          let i : k ≡ 1 = omega (arith, some) in
-          g .due (omega arith) (subst (λ (j : ℕ). Bare p m (c .region .erosion + j - 1)) i z)
+  climbing-due e z =
+      let some = climbing-numbers e .0 in
+      let i : c .region .erosion + k - 1 ≡ c .region .erosion + (k - 1) = omega arith in
+      g .stands e .due (bare-region p m _ _ _ _ (g .relief) (g .region) (k - 1) (subst (Bare p m) i z))
 
   pub climbing-turnable : Turnable c
   climbing-turnable =
@@ -252,19 +133,21 @@ module _ (p : Head) (m : List ℕ) (c : Climb) (a b : List ℕ) (done : List Plu
     pub turn-room : area (c .region .head) ≤ length a
     turn-room = midway .long
 
-    pub turn-asks : (e : ℕ) (a′ : List ℕ) (r′ : Region) → e < largestErosion → RegionPart (record {
+    pub turn-asks : (a′ : List ℕ) (r′ : Region) → RegionPart (record {
       head = c .region .head;
       column = c .region .column;
       row = c .region .row;
-      erosion = e;
+      erosion = c .region .erosion + (k - 1);
     }) a a a′ r′ → Settleable r′ a′ b
-    turn-asks e a′ r′ some part = part-settleable _ r′ a a a′ b part some (midway .long) (midway .held .long)
-
-    turn-due : Due p m (c .region .erosion + (k - 1) + 1)
-    turn-due =
-        let some = level .some in
-        let e : c .region .erosion + k ≡ c .region .erosion + (k - 1) + 1 = omega arith in
-        subst (Due p m) e (climbing-due (t .more))
+    turn-asks a′ r′ part =
+        part-settleable _ r′ a a a′ b part (let n = climbing-numbers (t .more) in omega (arith, n)) deep (midway .long) (midway .held .long)
+      where
+        -- the climb goes on, so its erosion is not bare
+        deep : Bare (r′ .head) a′ 0 → ⊥
+        deep z =
+            let some = level .some in
+            let e : r′ .erosion + 0 ≡ c .region .erosion + k - 1 = omega (arith, part .same) in
+            climbing-due (t .more) (subst (Bare p m) e (region-bare p m _ _ _ _ a′ (part .part p m turn-region) 0 z))
 
     -- what is left is the same
     turn-left : (places : ℕ) → (largestErosion - (c .region .erosion + (k - 1))) * (places + 1) ≤ left places (c .region .head) (c .stand)
@@ -289,7 +172,7 @@ module _ (p : Head) (m : List ℕ) (c : Climb) (a b : List ℕ) (done : List Plu
             first = plate-only p _ a a′ climbing-area (part .only);
             second = plate-only p _ b b′ climbing-area (part-second (c .plate) _ r′ a a a′ b b′ c′ part s);
             climbs = subst (Climbing p m c′ a′ b′) (sym turn-listed)
-                (part-climbs (c .plate) _ r′ a a a′ b b′ c′ part s p m (g .plate) (g .sides) turn-due turn-region);
+                (part-climbs (c .plate) _ r′ a a a′ b b′ c′ part s p m (g .plate) (g .sides) turn-region);
           }
 
       pub turn-less : leftOf p c′ ≤ leftOf p c
@@ -344,6 +227,18 @@ module _ (c : Climb) (a a′ b b′ marks′ : List ℕ) (run : Run) (reach : Re
         move : Plunge → Plunge
         move = moved (c .region .erosion) (c .region .column) (c .region .row)
 
+    -- at its end the climb has come to the first bare erosion
+    run-ended : run .next .more ≡ false → erosionsTaken after ≡ erosionCount p m
+    run-ended e =
+        ap (λ (n : ℕ). c .region .erosion + n) (of .ended e .0)
+        ∙ count-first p m (c .region .erosion + c .stand .number) (go (of .ended e .1)) (λ l. climbing-due p m c a b done g more)
+      where
+        go : Last (c .region .head) (g .relief) (c .stand .limit) (c .stand .number) → Bare p m (c .region .erosion + c .stand .number)
+        go (inl l) =
+            let i : largestErosion ≡ c .region .erosion + c .stand .number = omega (arith, g .limit) in
+            subst (Bare p m) i (erosion-top p m largestErosion (omega (arith, g .sides .narrow)))
+        go (inr z) = region-bare p m _ _ _ _ (g .relief) (g .region) (c .stand .number) z
+
     pub run-step : StepOf p m a a′ b b′ after (done ++ foundPlunges found marks′)
     run-step =
         let same = taken .same in
@@ -356,9 +251,9 @@ module _ (c : Climb) (a a′ b b′ marks′ : List ℕ) (run : Run) (reach : Re
             sides = g .sides;
             relief = g .relief;
             region = g .region;
-            due = g .due;
             limit = omega arith;
             stands = of .stands;
+            ended = run-ended;
             listed = run-joined;
           };
         }
@@ -416,6 +311,10 @@ module _ (p : Head) (m : List ℕ) (c : Climb) (a b : List ℕ) (done : List Plu
       ∙ ap (λ (t : Bool). listedWith p m (c .region) (cond t (soFar (c .region .head) (g .relief) (c .stand .number) (c .stand .place))
       (listing (c .region .head) (c .stand .limit) (g .relief)))) e
       ∙ sym whole
+
+  -- it has taken no more erosions than are numbered
+  pub climbing-few : c .stand .more ≡ false → erosionsTaken c ≤ largestErosion
+  climbing-few e = omega (arith, g .ended e, count-bound p m, g .sides .narrow)
 
   pub climbing-rest : (cs : List Plunge) × (listing p largestErosion m ≡ done ++ cs)
   climbing-rest =

@@ -1,3 +1,4 @@
 pub mod Regions
 pub mod Reaches
+pub mod Beginnings
 pub mod Climbs

@@ -18,6 +18,7 @@ use Rattle.geometry.specs.Lists.{gather, lowest, highest}
 use Rattle.geometry.specs.Plane.{Cell, cell, neighbours}
 use Rattle.geometry.specs.Plate.{On, at}
 use Rattle.theory.specs.Erosion.{erosion, highestNear, residue}
+use Rattle.theory.specs.Climbed.{Bare}
 use Rattle.theory.specs.Near.{lowestNear}
 use Rattle.theory.specs.Listing.{listedAt, listing}
 use Rattle.theory.proofs.Lists.{gather-same}
@@ -114,6 +115,13 @@ module _ (p : Head) (m : List ℕ) (k dx dy : ℕ) (p′ : Head) (m′ : List �
       erosion-step p′ m′ j c ∙ ap₂ (λ kd f. lowestNear kd f c) (r .kind) (fun-ext (region-erosion j))
       ∙ ap (lowest (erosion p m (k + j) (translated dx dy c))) (near-translated dx dy (erosion p m (k + j)) (p .kind) c)
       ∙ sym (erosion-step p m (k + j) (translated dx dy c)) ∙ ap (λ (n : ℕ). erosion p m n (translated dx dy c)) (sym (add-suc k j))
+
+  -- they are bare together
+  pub region-bare : (j : ℕ) → Bare p′ m′ j → Bare p m (k + j)
+  region-bare j z c = sym (region-erosion j (back dx dy c) ∙ ap (erosion p m (k + j)) (translated-back dx dy c)) ∙ z (back dx dy c)
+
+  pub bare-region : (j : ℕ) → Bare p m (k + j) → Bare p′ m′ j
+  bare-region j z c = region-erosion j c ∙ z (translated dx dy c)
 
   region-residue : (j : ℕ) (c : Cell) → residue p′ m′ (suc j) c ≡ residue p m (suc (k + j)) (translated dx dy c)
   unfolding residue

@@ -1,6 +1,6 @@
 -- Serves proofs: the plunges of a run, where a climb is and what it has listed, and what each step asks and leaves.
 use mathlib.Core.Path.{_≡_}
-use mathlib.Core.Bool.{true}
+use mathlib.Core.Bool.{true, false}
 use mathlib.Core.List.{List, [], _++_, map}
 use Prim.Native.Nat.{ℕ, _+_, _-_, _*_, _%_, _/_, _≤_, _<_}
 use lib.ListN.{length}
@@ -8,13 +8,14 @@ use Rattle.geometry.specs.declared.Head.{Head}
 use Rattle.geometry.specs.declared.Plunge.{Plunge}
 use Rattle.geometry.specs.Lists.{gather}
 use Rattle.geometry.specs.Plate.{area}
+use Rattle.theory.specs.Climbed.{Bare, erosionCount}
 use Rattle.refusal.specs.Refusals.{largestSide, largestErosion}
 use Rattle.refusal.specs.Sides.{Sides}
 use Rattle.buffers.specs.Fill.{PlateOnly}
 use Rattle.bounding_box.specs.declared.Bounds.{Bounds}
 use Rattle.residue_marks.specs.Marks.{markPlaces}
 use Rattle.residue_series.specs.Plunges.{listedReach, marksTo}
-use Rattle.residue_series.specs.Stands.{Due, Standing, listedTo, left}
+use Rattle.residue_series.specs.Stands.{Standing, listedTo, left}
 use Rattle.climb.specs.declared.Region.{Region}
 use Rattle.climb.specs.declared.Climb.{Climb}
 use Rattle.climb.specs.declared.Found.{Found}
@@ -58,15 +59,19 @@ RegionIn p m r m′ = RegionOf p m (r .erosion) (r .column) (r .row) (r .head) m
 abbrev pub listedWith : Head → List ℕ → Region → List Plunge → List Plunge
 listedWith p m r qs = gather (r .erosion) 0 (listedReach p m) ++ map (moved (r .erosion) (r .column) (r .row)) qs
 
--- a climb of relief m of plate p that has listed the plunges `done`, on a region whose next residue is due
+-- the erosions that a climb at its end has taken: the rungs climbed
+abbrev pub erosionsTaken : Climb → ℕ
+erosionsTaken c = c .region .erosion + c .stand .number
+
+-- a climb of relief m of plate p that has listed the plunges `done`; at its end it has taken as many erosions as the relief takes
 pub record Climbing (p : Head) (m : List ℕ) (c : Climb) (a b : List ℕ) (done : List Plunge) : Type 0 where
   pub plate : c .plate ≡ p
   pub sides : Sides p
   pub relief : List ℕ
   pub region : RegionIn p m (c .region) relief
-  pub due : Due p m (c .region .erosion + 1)
   pub limit : c .stand .limit + c .region .erosion ≡ largestErosion
   pub stands : c .stand .more ≡ true → Standing (c .region .head) relief (c .stand) a b
+  pub ended : c .stand .more ≡ false → erosionsTaken c ≡ erosionCount p m
   pub listed : done ≡ listedWith p m (c .region) (listedTo (c .region .head) relief (c .stand))
 
 -- falls with every run of a climb on plate p
@@ -99,21 +104,31 @@ pub record RegionPart (r : Region) (src a a′ : List ℕ) (r′ : Region) : Typ
   pub only : PlateOnly (r .head) a a′
   pub part : (p : Head) (m : List ℕ) → RegionIn p m r src → RegionIn p m r′ a′
 
--- a region, its erosion in one buffer, and another buffer
+-- a region, its erosion in one buffer, which is not bare, and another buffer
 pub record Settleable (r : Region) (a b : List ℕ) : Type 0 where
   pub sides : Sides (r .head)
   pub some : r .erosion < largestErosion
+  pub deep : Bare (r .head) a 0 → ⊥
   pub first : area (r .head) ≤ length a
   pub second : area (r .head) ≤ length b
 
 -- a climb that begins on it
 pub record Settled (plate : Head) (r : Region) (a b b′ : List ℕ) (c : Climb) : Type 0 where
   pub second : PlateOnly (r .head) b b′
-  pub climbs : (p : Head) (m : List ℕ) → plate ≡ p → Sides p → Due p m (r .erosion + 1) → RegionIn p m r a
+  pub climbs : (p : Head) (m : List ℕ) → plate ≡ p → Sides p → RegionIn p m r a
       → Climbing p m c a b′ (gather (r .erosion) 0 (listedReach p m))
   pub left : (places : ℕ) → left places (c .region .head) (c .stand) ≤ (largestErosion - r .erosion) * (places + 1)
 
 -- ---- the steps of a climb
+
+-- a climb that takes no residue
+abbrev pub noClimb : Head → Region → Climb
+noClimb p r =
+    record {
+      plate = p;
+      region = r;
+      stand = record { limit = largestErosion; number = 0; here = 0; place = 0; top = 0; more = false };
+    }
 
 -- a climb before its first run
 pub record Begun (p : Head) (m a a′ b b′ : List ℕ) (c : Climb) : Type 0 where

@@ -7,15 +7,16 @@ use geometry::Reach;
 use residue_marks::Places;
 use residue_series::Stand;
 ghost use mathlib.Core.Path.{_≡_};
-ghost use mathlib.Core.Bool.{true};
+ghost use mathlib.Core.Bool.{true, false};
 ghost use Prim.Native.Nat.{_-_, _≤_};
 ghost use lib.ListN.{length};
 ghost use Rattle.geometry.specs.Plate.{area};
+ghost use Rattle.theory.specs.Climbed.{Bare};
 ghost use Rattle.refusal.specs.Refusals.{largestErosion};
 ghost use Rattle.refusal.specs.Sides.{Sides};
 ghost use Rattle.erosion_series.specs.Pairs.{SeriesBuffers};
 ghost use Rattle.bounding_box.specs.Boxes.{Within};
-ghost use Rattle.climb.specs.Climbs.{OnPlates, partIn, RegionPart, Settleable, Settled, Begun};
+ghost use Rattle.climb.specs.Climbs.{erosionsTaken, OnPlates, partIn, RegionPart, Settleable, Settled, noClimb, Begun};
 ghost use Rattle.climb.specs.Climbs.{Turnable, Turning, ClimbingSome, Narrowed, Underway, Stepped};
 
 // A region is taken anew after so many residues, and one more for so many columns: by then bare columns cost about what that costs.
@@ -121,7 +122,35 @@ fn settle(plate: Head, region: Region, a: &[u8], b: &mut [u8]) -> Climb
     }
 }
 
-// The climb of a relief before its first run.
+// Whether a map is 0 everywhere.
+fn is_bare(head: Head, map: &[u8]) -> bool
+    requires { ⌜ Sides head × (area head ≤ length (now map)) ⌝ }
+    ensures { λ r. ⌜ (r ≡ true → Bare head (now (map .entry)) 0) × (r ≡ false → Bare head (now (map .entry)) 0 → ⊥) ⌝ }
+{
+    let cells = (head.height as usize) * (head.width as usize);
+    bounding_box::first_set(map, cells) == cells
+}
+
+// The climb of a bare relief, which is at its end: no residue is taken.
+fn no_climb(plate: Head, region: Region) -> Climb
+    ensures { λ r. ⌜ r ≡ noClimb plate region ⌝ }
+{
+    let stand = Stand {
+        limit: refusal::LARGEST_EROSION as usize,
+        number: 0,
+        here: 0,
+        place: 0,
+        top: 0,
+        more: false,
+    };
+    Climb {
+        plate,
+        region,
+        stand,
+    }
+}
+
+// The climb of a relief before its first run. Its region is bare only if the relief is: then it is the plate's first cell.
 pub fn begin(head: Head, relief: &[u8], a: &mut [u8], b: &mut [u8]) -> Climb
     requires { ⌜ Sides head × SeriesBuffers head (now relief) (now a) (now b) ⌝ }
     ensures { λ r. ⌜ Begun head (now (relief .entry)) (now (a .entry)) (now (a .exit)) (now (b .entry)) (now (b .exit)) r ⌝ }
@@ -133,7 +162,18 @@ pub fn begin(head: Head, relief: &[u8], a: &mut [u8], b: &mut [u8]) -> Climb
         erosion: 0,
     };
     let part = copy_region(whole, relief, a);
+    if is_bare(part.head, a) {
+        return no_climb(head, part);
+    }
     settle(head, part, a, b)
+}
+
+// How many erosions a climb at its end has taken: the rungs climbed.
+pub fn erosions_taken(climb: Climb) -> usize
+    requires { ⌜ erosionsTaken climb ≤ largestErosion ⌝ }
+    ensures { λ r. ⌜ r ≡ erosionsTaken climb ⌝ }
+{
+    climb.region.erosion + climb.stand.number
 }
 
 // Whether a climb takes its region anew: at the first place of an odd residue, after as many as make it worth while.

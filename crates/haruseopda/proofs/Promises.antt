@@ -11,6 +11,7 @@ use Rattle.geometry.specs.Plane.{cell}
 use Rattle.geometry.specs.Plate.{area, tabulated}
 use Rattle.theory.specs.Levels.{clearance, axis, reconstructed}
 use Rattle.theory.specs.Erosion.{erosion, residue, volume}
+use Rattle.theory.specs.Climbed.{erosionCount}
 use Rattle.refusal.specs.declared.Verdict.{Verdict}
 use Rattle.refusal.specs.Refusals.{trial, firstMet, short, isErosionNumber, largestErosion, isLevel, headOf, free, Answered, Worked}
 use Rattle.refusal.proofs.Refusals.{refused}
@@ -47,8 +48,8 @@ left-silent out out′ a a′ b b′ r n e x y q =
       second = worked-silent b b′ n e (x .0) (y .0) (q .second);
     }
 
-listing-silent : (out out′ a a′ b b′ : List ℕ) (r : ListAnswer) (n : ℕ) → free (refused n) ≡ false → (x y : Head × List Plunge)
-    → ListAnswered (refused n) (x .0) (x .1) out out′ a a′ b b′ r → ListAnswered (refused n) (y .0) (y .1) out out′ a a′ b b′ r
+listing-silent : (out out′ a a′ b b′ : List ℕ) (r : ListAnswer) (n : ℕ) → free (refused n) ≡ false → (x y : Head × List Plunge × ℕ)
+    → ListAnswered (refused n) (x .0) (x .1) (x .2) out out′ a a′ b b′ r → ListAnswered (refused n) (y .0) (y .1) (y .2) out out′ a a′ b b′ r
 listing-silent out out′ a a′ b b′ r n e x y q =
     record {
       answer = q .answer;
@@ -130,10 +131,10 @@ module _ (k w h : ℕ) (p : Plate) (e : p ≡ narrowPlate k w h) where
 
     pub list-promise : (r : ListAnswer) → ListCall m (p .kind) (p .width) (p .height) out out′ a a′ b b′ r → ListCall m k w h out out′ a a′ b b′ r
     list-promise r =
-        narrowed {A = ℕ} {X = Head × List Plunge} nothing (λ w h n. false)
+        narrowed {A = ℕ} {X = Head × List Plunge × ℕ} nothing (λ w h n. false)
         (λ k w h n. firstMet (trial (short w h (length m ∷ length a ∷ length b ∷ [])) 4 0
         ∷ roomTrials (fileLength (headOf k w h) (length (listed m k w h))) out))
-        (λ k w h n. (headOf k w h, listed m k w h)) (λ v x. ListAnswered v (x .0) (x .1) out out′ a a′ b b′ r)
+        (λ k w h n. (headOf k w h, listed m k w h, erosionCount (headOf k w h) m)) (λ v x. ListAnswered v (x .0) (x .1) (x .2) out out′ a a′ b b′ r)
         (listing-silent out out′ a a′ b b′ r) k w h 0 (λ l o. inl refl) p e 0 refl
 
 -- the volume takes no kind: 4 is one

@@ -21,15 +21,8 @@ fn compare(
     ensures { λ r. ⌜ Compared (now (file .entry)) r × PlateOnly head (now (a .entry)) (now (a .exit)) × PlateOnly head (now (b .entry)) (now (b .exit)) ⌝ }
 {
     let mut none = [0u8; 1];
-    let progress = listing_plunges::send_listing(
-        head,
-        Pass::Compare,
-        relief,
-        file,
-        &mut none,
-        a,
-        b,
-    );
+    let sent = listing_plunges::send_listing(head, Pass::Compare, relief, file, &mut none, a, b);
+    let progress = sent.progress;
     if progress.like {
         if progress.at == fields::place(head, plunges) {
             return Verdict::Accepted;

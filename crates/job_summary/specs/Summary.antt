@@ -64,6 +64,12 @@ tidyLine t = cond t (ascii "tidy yes\n") (ascii "tidy no\n")
 abbrev pub reliefText : List ℕ → List ℕ
 reliefText f = volumeLine (volumeIn f) ++ tidyLine (isTidy f)
 
+-- ---- a listing
+
+-- "rungs 12": "how many rungs were climbed" (document 02, N5), told of a list that is made; no part of a file's figures
+abbrev pub rungsLine : ℕ → List ℕ
+rungsLine n = phrase (ascii "rungs ") n (ascii "\n")
+
 -- ---- the whole text of a file
 
 unfoldable pub summaryText : List ℕ → List ℕ

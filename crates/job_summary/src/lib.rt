@@ -9,7 +9,7 @@ ghost use Rattle.io.specs.Counts.{Counts};
 ghost use Rattle.reading.specs.Reading.{plungesIn};
 ghost use Rattle.reading.specs.Steps.{JobOf};
 ghost use Rattle.phrases.specs.Phrases.{Appends};
-ghost use Rattle.job_summary.specs.Summary.{plateLine, reachLine, lineOfReach, reachLines, listText, volumeLine, tidyLine, summaryText, summaryRoom};
+ghost use Rattle.job_summary.specs.Summary.{plateLine, reachLine, lineOfReach, reachLines, listText, volumeLine, tidyLine, rungsLine, summaryText, summaryRoom};
 ghost use Rattle.job_relief.specs.Relief.{WorkedOn};
 ghost use Rattle.job_relief.specs.Works.{Workable};
 
@@ -128,6 +128,16 @@ fn append_relief(page: &mut [u8], at: usize, volume: u64, tidy: bool) -> usize
 {
     let a = phrases::append_phrase(page, at, b"volume ", volume, b"\n");
     append_tidy(page, a, tidy)
+}
+
+// ---- a listing
+
+// The line of the rungs climbed.
+pub fn append_rungs(page: &mut [u8], at: usize, rungs: u64) -> usize
+    requires { ⌜ at ≤ length (now page) ⌝ }
+    ensures { λ r. ⌜ Appends (now (page .entry)) at (rungsLine rungs) (now (page .exit)) r × Counts r (now (page .exit)) ⌝ }
+{
+    phrases::append_phrase(page, at, b"rungs ", rungs, b"\n")
 }
 
 // ---- the whole text

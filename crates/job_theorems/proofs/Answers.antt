@@ -28,6 +28,7 @@ use Rattle.listing.specs.Answers.{listAnswer}
 use Rattle.jobs.specs.Calls.{tidiedPlunges, workTrial, roomFor, tidyVerdict}
 use Rattle.jobs.proofs.Calls.{long-three}
 use Rattle.job_theorems.specs.Canonical.{NoneMet, bytesOf, Lists}
+use Rattle.job_theorems.specs.Climbed.{erosionsOf}
 
 -- trials of which none is met leave the word to those behind them
 pub after : (ts us : List Trial) → NoneMet ts → firstMet (ts ++ us) ≡ firstMet us
@@ -40,9 +41,13 @@ tidy-accepts f out a b c ok works room =
 
 -- an accepted call that answers with a list
 module _ (p : Head) (qs : List Plunge) (out out′ : List ℕ) (r : ListAnswer) (v : Verdict) (accepts : v ≡ Accepted)
-    (answer : r ≡ listAnswer v p qs) (bytes : out′ ≡ written v (encoded p qs) out) where
-  answered : r ≡ Listed (record { bytes = fileLength p (length qs); plunges = length qs })
-  answered = answer ∙ ap (λ (u : Verdict). listAnswer u p qs) accepts
+    (n : ℕ) (answer : r ≡ listAnswer v p qs n) (bytes : out′ ≡ written v (encoded p qs) out) where
+  answered : r ≡ Listed (record { bytes = fileLength p (length qs); plunges = length qs; erosions = n })
+  answered = answer ∙ ap (λ (u : Verdict). listAnswer u p qs n) accepts
+
+  -- its count is the one that was made
+  pub given-erosions : erosionsOf r ≡ n
+  given-erosions = ap erosionsOf answered
 
   -- the bytes of the answer alone are the list's file
   pub given-file : take (bytesOf r) out′ ≡ encoded p qs
@@ -51,7 +56,7 @@ module _ (p : Head) (qs : List Plunge) (out out′ : List ℕ) (r : ListAnswer) 
       ∙ take-at (encoded p qs) (drop (length (encoded p qs)) out) (fileLength p (length qs)) (encoded-length p qs)
 
   pub given-lists : Lists r (take (bytesOf r) out′)
-  given-lists = answered ∙ (λ i. Listed (record { bytes = long i; plunges = many i }))
+  given-lists = (n, answered ∙ (λ i. Listed (record { bytes = long i; plunges = many i; erosions = n })))
     where
       long : fileLength p (length qs) ≡ length (take (bytesOf r) out′)
       long = sym (ap length given-file ∙ encoded-length p qs)

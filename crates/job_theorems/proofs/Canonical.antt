@@ -12,6 +12,7 @@ use Rattle.geometry.specs.declared.Plunge.{Plunge}
 use Rattle.geometry.specs.Plane.{Cell}
 use Rattle.geometry.specs.Plate.{On, area, at}
 use Rattle.geometry.specs.Plunges.{fitsPlate}
+use Rattle.theory.specs.Climbed.{erosionCount}
 use Rattle.theory.specs.Listing.{Fits, Maximal, Rising, drawn, drawing, canonical}
 use Rattle.theory.proofs.Lists.{gather-out}
 use Rattle.theory.proofs.Plate.{on-or-off, at-tabulated, length-tabulated}
@@ -41,15 +42,15 @@ use Rattle.job_theorems.proofs.Answers.{after, tidy-accepts, given-file
 
 module _ (f : List ℕ) (s : Tidying f) where
   -- with buffers long enough nothing is refused
-  accepts : tidyVerdict f (s .out) (s .a) (s .b) (s .c) ≡ Accepted
+  pub accepts : tidyVerdict f (s .out) (s .a) (s .b) (s .c) ≡ Accepted
   accepts = tidy-accepts f (s .out) (s .a) (s .b) (s .c) (s .readable) (s .works) (s .room)
 
   -- the bytes of the answer alone are the tidied file
   pub file-is : file s ≡ tidied f
-  file-is = given-file (headIn f) (tidiedPlunges f) (s .out) (s .out′) (s .answer) _ accepts (s .call .list .answer) (s .call .list .bytes)
+  file-is = given-file (headIn f) (tidiedPlunges f) (s .out) (s .out′) (s .answer) _ accepts _ (s .call .list .answer) (s .call .list .bytes)
 
   pub tidying-lists : Lists (s .answer) (file s)
-  tidying-lists = given-lists (headIn f) (tidiedPlunges f) (s .out) (s .out′) (s .answer) _ accepts (s .call .list .answer) (s .call .list .bytes)
+  tidying-lists = given-lists (headIn f) (tidiedPlunges f) (s .out) (s .out′) (s .answer) _ accepts _ (s .call .list .answer) (s .call .list .bytes)
 
 -- ---- a readable file, its relief and its tidied file
 
@@ -57,7 +58,7 @@ module _ (f : List ℕ) (ok : IsReadable f) where
   sound : Sound f
   sound = readable-sound f ok
 
-  sides : min (headIn f .width) (headIn f .height) ≤ 2 * largestErosion
+  pub sides : min (headIn f .width) (headIn f .height) ≤ 2 * largestErosion
   sides = omega (arith, sound .sides .narrow)
 
   good : Writable (headIn f) (tidiedPlunges f)
@@ -225,7 +226,7 @@ tidiable f ok = record {
       b′ = b;
       c = c;
       c′ = c;
-      answer = listAnswer v (headIn f) (tidiedPlunges f);
+      answer = listAnswer v (headIn f) (tidiedPlunges f) (erosionCount (headIn f) (relief f));
       call = record {
         list = record { answer = refl; bytes = refl; first = worked-none v _ a; second = worked-none v _ b };
         third = worked-none v _ c;

@@ -1,4 +1,5 @@
 pub mod Answers
 pub mod Canonical
 pub mod Restored
+pub mod Climbed
 pub mod Blocks

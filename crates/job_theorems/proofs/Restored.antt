@@ -24,14 +24,14 @@ use Rattle.job_theorems.specs.Restored.{Listing, listedFile, Drawing, Re
 use Rattle.job_theorems.proofs.Answers.{after, given-file, given-lists, listing-writable}
 
 module _ (m : List ℕ) (k w h : ℕ) (s : Listing m k w h) where
-  accepts : listVerdict m k w h (s .out) (s .a) (s .b) ≡ Accepted
+  pub accepts : listVerdict m k w h (s .out) (s .a) (s .b) ≡ Accepted
   accepts = after (listTrials m k w h (s .a) (s .b)) (roomFor (headOf k w h) (listed m k w h) (s .out)) (s .right) ∙ s .room
 
-  file-is : listedFile s ≡ encoded (headOf k w h) (listed m k w h)
-  file-is = given-file (headOf k w h) (listed m k w h) (s .out) (s .out′) (s .answer) _ accepts (s .call .answer) (s .call .bytes)
+  pub file-is : listedFile s ≡ encoded (headOf k w h) (listed m k w h)
+  file-is = given-file (headOf k w h) (listed m k w h) (s .out) (s .out′) (s .answer) _ accepts _ (s .call .answer) (s .call .bytes)
 
   lists : Lists (s .answer) (listedFile s)
-  lists = given-lists (headOf k w h) (listed m k w h) (s .out) (s .out′) (s .answer) _ accepts (s .call .answer) (s .call .bytes)
+  lists = given-lists (headOf k w h) (listed m k w h) (s .out) (s .out′) (s .answer) _ accepts _ (s .call .answer) (s .call .bytes)
 
   -- what accepted arguments say
   abbrev shortest : ℕ
@@ -42,7 +42,7 @@ module _ (m : List ℕ) (k w h : ℕ) (s : Listing m k w h) where
       (shortest-two (h * w) (length m) (length (s .a)) (length (s .b) ∷ []) ∙ shortest-two (h * w) (min (length m) (length (s .a))) (length (s .b)) []))
       ∙ s .right)
 
-  sides : Sides (headOf k w h)
+  pub sides : Sides (headOf k w h)
   sides = record { wide = sound .wide; narrow = sound .narrow; tall = sound .tall; low = sound .low }
 
   long : area (headOf k w h) ≤ length m

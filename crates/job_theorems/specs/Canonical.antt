@@ -91,9 +91,9 @@ pub record Canonical (f F : List ℕ) : Type 0 where
   pub again : (t : Tidying F) → file t ≡ F
   pub checked : (s : Checking f) → (s .answer ≡ Accepted) ↔ (F ≡ f)
 
--- an answer with a list: how long it is, and how many plunges it has
+-- an answer with a list: how long it is, and how many plunges it has; the rungs climbed for it are no part of it
 abbrev pub Lists : ListAnswer → List ℕ → Type 0
-Lists r F = r ≡ Listed (record { bytes = length F; plunges = length (plungesIn F) })
+Lists r F = (rungs : ℕ) × (r ≡ Listed (record { bytes = length F; plunges = length (plungesIn F); erosions = rungs }))
 
 -- the whole demand, for two accepted files, each tidied with buffers long enough
 pub record CanonicalForm {f g : List ℕ} (s : Tidying f) (t : Tidying g) : Type 0 where

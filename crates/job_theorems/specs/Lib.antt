@@ -1,3 +1,4 @@
 pub mod Canonical
 pub mod Restored
+pub mod Climbed
 pub mod Blocks

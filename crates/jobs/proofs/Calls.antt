@@ -12,9 +12,10 @@ use Rattle.geometry.specs.declared.Head.{Head}
 use Rattle.geometry.specs.declared.Plunge.{Plunge}
 use Rattle.geometry.specs.Plane.{Cell}
 use Rattle.geometry.specs.Plate.{On, area, at, tabulated}
+use Rattle.theory.specs.Climbed.{erosionCount}
 use Rattle.theory.specs.Listing.{listing, drawn}
 use Rattle.theory.proofs.Plate.{on-or-off, at-cell, at-tabulated}
-use Rattle.theory.proofs.Canonical.{listing-same}
+use Rattle.theory.proofs.Canonical.{count-same, listing-same}
 use Rattle.refusal.specs.declared.Refusal.{Refusal}
 use Rattle.refusal.specs.declared.Verdict.{Verdict}
 use Rattle.refusal.specs.declared.Verdict.the-variants.{Accepted, Refused}
@@ -87,23 +88,24 @@ room-free n out = go (ltb (length out) n)
     go true = refl
     go false = refl
 
-pub listing-refused : (v : Verdict) (q : Refusal) (p : Head) (qs : List Plunge) (out a b : List ℕ) → v ≡ Refused q → ListAnswered v p qs out out a a b b (Unlisted q)
-listing-refused v q p qs out a b e =
+pub listing-refused : (v : Verdict) (q : Refusal) (p : Head) (qs : List Plunge) (n : ℕ) (out a b : List ℕ) → v ≡ Refused q
+    → ListAnswered v p qs n out out a a b b (Unlisted q)
+listing-refused v q p qs n out a b e =
     record {
-      answer = sym (ap (λ (u : Verdict). listAnswer u p qs) e);
+      answer = sym (ap (λ (u : Verdict). listAnswer u p qs n) e);
       bytes = sym (ap (λ (u : Verdict). written u (encoded p qs) out) e);
       first = worked-none v (area p) a;
       second = worked-none v (area p) b;
     }
 
-pub listing-done : (v : Verdict) (p : Head) (qs : List Plunge) (out out′ a a′ b b′ : List ℕ) (r : ListAnswer)
+pub listing-done : (v : Verdict) (p : Head) (qs : List Plunge) (n : ℕ) (out out′ a a′ b b′ : List ℕ) (r : ListAnswer)
     → v ≡ firstMet (roomFor p qs out)
-    → r ≡ listAnswer (firstMet (roomFor p qs out)) p qs
+    → r ≡ listAnswer (firstMet (roomFor p qs out)) p qs n
     → out′ ≡ written (firstMet (roomFor p qs out)) (encoded p qs) out → PlateOnly p a a′ → PlateOnly p b b′
-    → ListAnswered v p qs out out′ a a′ b b′ r
-listing-done v p qs out out′ a a′ b b′ r e h l x y =
+    → ListAnswered v p qs n out out′ a a′ b b′ r
+listing-done v p qs n out out′ a a′ b b′ r e h l x y =
     record {
-      answer = h ∙ sym (ap (λ (u : Verdict). listAnswer u p qs) e);
+      answer = h ∙ sym (ap (λ (u : Verdict). listAnswer u p qs n) e);
       bytes = l ∙ sym (ap (λ (u : Verdict). written u (encoded p qs) out) e);
       first = worked-free v p a a′ freed x;
       second = worked-free v p b b′ freed y;
@@ -131,6 +133,13 @@ drawn-lists f p n old new e l m =
     listing-same p largestErosion new (tabulated p (drawn (p .kind) (plungesUpTo n f))) (mapped-at p (drawn (p .kind) (plungesUpTo n f)) old new m)
     ∙ ap₂ (λ (h : Head) (k : ℕ). listing h largestErosion (tabulated h (drawn (h .kind) (plungesUpTo k f)))) e l
 
+-- and takes as many erosions
+pub drawn-counts : (f : List ℕ) (p : Head) (n : ℕ) (old new : List ℕ) → p ≡ headIn f → n ≡ total f → Mapped p (drawn (p .kind) (plungesUpTo n f)) old new
+    → erosionCount p new ≡ erosionCount (headIn f) (relief f)
+drawn-counts f p n old new e l m =
+    count-same p new (tabulated p (drawn (p .kind) (plungesUpTo n f))) (mapped-at p (drawn (p .kind) (plungesUpTo n f)) old new m)
+    ∙ ap₂ (λ (h : Head) (k : ℕ). erosionCount h (tabulated h (drawn (h .kind) (plungesUpTo k f)))) e l
+
 pub drawn-bytes : (f : List ℕ) (p : Head) (n : ℕ) (old new : List ℕ) → p ≡ headIn f → n ≡ total f → area p ≤ length old
     → Mapped p (drawn (p .kind) (plungesUpTo n f)) old new
     → new ≡ relief f ++ drop (length (relief f)) old
@@ -147,7 +156,7 @@ draw-fault f q out e = answered-refused (drawVerdict f out) q (relief f) out (fi
 tidy-refused : (f : List ℕ) (q : Refusal) (out a b c : List ℕ) → tidyVerdict f out a b c ≡ Refused q → TidyCall f out out a a b b c c (Unlisted q)
 tidy-refused f q out a b c e =
     record {
-      list = listing-refused (tidyVerdict f out a b c) q (headIn f) (tidiedPlunges f) out a b e;
+      list = listing-refused (tidyVerdict f out a b c) q (headIn f) (tidiedPlunges f) _ out a b e;
       third = worked-none (tidyVerdict f out a b c) (area (headIn f)) c;
     }
 
@@ -209,8 +218,8 @@ module _ (f : List ℕ) (j : Job) (w : JobOf f j) where
         → ListedInto (j .head) c′ out out′ r → PlateOnly (j .head) a a′ → PlateOnly (j .head) b b′ → TidyCall f out out′ a a′ b b′ c c′ r
     tidy-done l out′ a′ b′ c′ r m d x y =
         record {
-          list = listing-done v (headIn f) (tidiedPlunges f) out out′ a a′ b b′ r verdict
-              (into .answer ∙ ap (λ (qs : List Plunge). listAnswer (firstMet (roomFor (headIn f) qs out)) (headIn f) qs) lists)
+          list = listing-done v (headIn f) (tidiedPlunges f) (erosionCount (headIn f) (relief f)) out out′ a a′ b b′ r verdict
+              (into .answer ∙ ap₂ (λ (qs : List Plunge) (n : ℕ). listAnswer (firstMet (roomFor (headIn f) qs out)) (headIn f) qs n) lists counts)
               (into .bytes ∙ ap (λ (qs : List Plunge). written (firstMet (roomFor (headIn f) qs out)) (encoded (headIn f) qs) out)
               lists) (moved a a′ x) (moved b b′ y);
           third = worked-free v (headIn f) c c′ (ap free verdict ∙ room-free (fileLength (headIn f) (length (tidiedPlunges f))) out)
@@ -228,6 +237,9 @@ module _ (f : List ℕ) (j : Job) (w : JobOf f j) where
 
         lists : listing (headIn f) largestErosion c′ ≡ tidiedPlunges f
         lists = ap (λ (h : Head). listing h largestErosion c′) (sym (w .head)) ∙ drawn-lists f (j .head) (j .plunges) c c′ (w .head) (w .plunges) m
+
+        counts : erosionCount (headIn f) c′ ≡ erosionCount (headIn f) (relief f)
+        counts = ap (λ (h : Head). erosionCount h c′) (sym (w .head)) ∙ drawn-counts f (j .head) (j .plunges) c c′ (w .head) (w .plunges) m
 
         moved : (s s′ : List ℕ) → PlateOnly (j .head) s s′ → PlateOnly (headIn f) s s′
         moved s s′ = subst (λ (h : Head). PlateOnly h s s′) (w .head)
@@ -249,7 +261,7 @@ module _ (m : List ℕ) (k w h : ℕ) (out a b : List ℕ) (n : ℕ) (v : Verdic
       (λ (u : Verdict). andThen u (firstMet (roomFor (headOf k w h) (listed m k w h) out))) judged
 
   pub list-refused : (q : Refusal) → v ≡ Refused q → ListCall m k w h out out a a b b (Unlisted q)
-  list-refused q l = listing-refused (listVerdict m k w h out a b) q (headOf k w h) (listed m k w h) out a b
+  list-refused q l = listing-refused (listVerdict m k w h out a b) q (headOf k w h) (listed m k w h) _ out a b
       (verdict ∙ ap (λ (u : Verdict). andThen u (firstMet (roomFor (headOf k w h) (listed m k w h) out))) l)
 
   -- what the listing asks
@@ -268,6 +280,6 @@ module _ (m : List ℕ) (k w h : ℕ) (out a b : List ℕ) (n : ℕ) (v : Verdic
       → PlateOnly p a a′ → PlateOnly p b b′ → ListCall m k w h out out′ a a′ b b′ r
   list-done l p i out′ a′ b′ r d x y =
       let into : ListedInto (headOf k w h) m out out′ r = subst (λ (q : Head). ListedInto q m out out′ r) i d in
-      listing-done (listVerdict m k w h out a b) (headOf k w h) (listed m k w h) out out′ a a′ b b′ r
+      listing-done (listVerdict m k w h out a b) (headOf k w h) (listed m k w h) (erosionCount (headOf k w h) m) out out′ a a′ b b′ r
       (verdict ∙ ap (λ (u : Verdict). andThen u (firstMet (roomFor (headOf k w h) (listed m k w h) out))) l)
       (into .answer) (into .bytes) (subst (λ (q : Head). PlateOnly q a a′) i x) (subst (λ (q : Head). PlateOnly q b b′) i y)

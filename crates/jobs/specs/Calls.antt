@@ -1,4 +1,4 @@
--- To be believed: calls on plunge files: what each answers, and what its buffers hold at exit (document 01, "Plunge file, drawing, tidying" and "Refusals in their order").
+-- To be believed: calls on plunge files: what each answers, and what its buffers hold at exit (document 01, "Plunge file, drawing, tidying" and "Refusals in their order"; document 02, N5).
 use mathlib.Core.Path.{_≡_}
 use mathlib.Core.Bool.{false}
 use mathlib.Core.List.{List, [], _∷_, _++_}
@@ -7,6 +7,7 @@ use lib.ListN.{length}
 use Rattle.geometry.specs.declared.Head.{Head}
 use Rattle.geometry.specs.declared.Plunge.{Plunge}
 use Rattle.geometry.specs.Plate.{area}
+use Rattle.theory.specs.Climbed.{erosionCount}
 use Rattle.theory.specs.Listing.{listing, drawing, canonical}
 use Rattle.refusal.specs.declared.Verdict.{Verdict}
 use Rattle.refusal.specs.Refusals.{Trial, trial, firstMet, mapTrials, short, headOf, largestErosion, written, Answered, Worked}
@@ -48,15 +49,16 @@ roomFor p qs = roomTrials (fileLength p (length qs))
 abbrev pub listVerdict : List ℕ → ℕ → ℕ → ℕ → List ℕ → List ℕ → List ℕ → Verdict
 listVerdict m k w h out a b = firstMet (listTrials m k w h a b ++ roomFor (headOf k w h) (listed m k w h) out)
 
--- a call that answers with a list: the answer, the file's bytes, two work buffers
-pub record ListAnswered (verdict : Verdict) (p : Head) (qs : List Plunge) (out out′ a a′ b b′ : List ℕ) (r : ListAnswer) : Type 0 where
-  pub answer : r ≡ listAnswer verdict p qs
+-- a call that answers with a list, for which some rungs were climbed: the answer, the file's bytes, two work buffers
+pub record ListAnswered (verdict : Verdict) (p : Head) (qs : List Plunge) (rungs : ℕ) (out out′ a a′ b b′ : List ℕ) (r : ListAnswer) : Type 0 where
+  pub answer : r ≡ listAnswer verdict p qs rungs
   pub bytes : out′ ≡ written verdict (encoded p qs) out
   pub first : Worked verdict (area p) a a′
   pub second : Worked verdict (area p) b b′
 
 abbrev pub ListCall : List ℕ → ℕ → ℕ → ℕ → List ℕ → List ℕ → List ℕ → List ℕ → List ℕ → List ℕ → ListAnswer → Type 0
-ListCall m k w h out out′ a a′ b b′ = ListAnswered (listVerdict m k w h out a b) (headOf k w h) (listed m k w h) out out′ a a′ b b′
+ListCall m k w h out out′ a a′ b b′ =
+    ListAnswered (listVerdict m k w h out a b) (headOf k w h) (listed m k w h) (erosionCount (headOf k w h) m) out out′ a a′ b b′
 
 -- ---- tidying
 
@@ -74,5 +76,5 @@ abbrev pub tidyVerdict : List ℕ → List ℕ → List ℕ → List ℕ → Lis
 tidyVerdict f out a b c = firstMet (fileTrials f ++ (workTrial f a b c ∷ roomFor (headIn f) (tidiedPlunges f) out))
 
 pub record TidyCall (f out out′ a a′ b b′ c c′ : List ℕ) (r : ListAnswer) : Type 0 where
-  pub list : ListAnswered (tidyVerdict f out a b c) (headIn f) (tidiedPlunges f) out out′ a a′ b b′ r
+  pub list : ListAnswered (tidyVerdict f out a b c) (headIn f) (tidiedPlunges f) (erosionCount (headIn f) (relief f)) out out′ a a′ b b′ r
   pub third : Worked (tidyVerdict f out a b c) (area (headIn f)) c c′

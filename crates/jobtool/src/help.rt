@@ -69,7 +69,7 @@ fn print_commands() -> bool {
 fn print_rest() -> bool {
     if !io::write_all(
         STDOUT_FILENO,
-        b"  jobtool scan [PICTURE]      a PGM picture as a scan; --kind 4 for diamonds (8 otherwise)\n  jobtool picture [FILE]      a scan, or what a job file cuts, as a PGM picture\n\nWithout a name, or with -, it reads standard input; with -o OUT the answer goes to that file.\n",
+        b"  jobtool scan [PICTURE]      a PGM picture as a scan; --kind 4 for diamonds (8 otherwise)\n  jobtool picture [FILE]      a scan, or what a job file cuts, as a PGM picture\n\nWithout a name, or with -, it reads standard input; with -o OUT the answer goes to that file.\nWith --rungs list and tidy also tell, on standard error, how many rungs were climbed.\n",
     ) {
         return false;
     }

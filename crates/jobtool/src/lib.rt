@@ -4,18 +4,21 @@ mod moves;
 mod refusals;
 
 use comparison::Comparison;
+use libc::STDERR_FILENO;
+use listing::Extent;
 use motion_floats::Scale;
 use tool_answers::Outcome;
 use tool_words::Command;
 ghost use Prim.Native.Nat.{_≤_};
 ghost use lib.ListN.{length};
 
-// What is asked: a command, its scale, the kind of a scan that is made, which plain word is the first input, and whether what is told is
-// headed by its input's name.
+// What is asked: a command, its scale, the kind of a scan that is made, whether the rungs climbed are told, which plain word is the first
+// input, and whether what is told is headed by its input's name.
 struct Request {
     command: Command,
     scale: Scale,
     kind: u8,
+    rungs: bool,
     first: usize,
     headed: bool,
 }
@@ -109,6 +112,35 @@ fn deliver(
     2
 }
 
+// The rungs climbed, on standard error: the answer's own bytes are a job file.
+fn say_rungs(request: Request, extent: Extent) {
+    if !request.rungs {
+        return;
+    }
+    let mut page = io::buffer();
+    let n = job_summary::append_rungs(&mut page, 0, extent.erosions as u64);
+    io::write_all(STDERR_FILENO, &page[..n]);
+}
+
+// Writes a list's file, and tells of it what is asked.
+fn deliver_list(
+    fd: i32,
+    about: &[u8],
+    request: Request,
+    number: usize,
+    input: &[u8],
+    out: &[u8],
+    extent: Extent,
+) -> u32
+    ensures { λ r. ⌜ r ≤ 2 ⌝ }
+{
+    let status = deliver(fd, about, request, number, input, out, extent.bytes);
+    if status == 0 {
+        say_rungs(request, extent);
+    }
+    status
+}
+
 // An input that was read: its answer goes to fd, or its refusal is said.
 fn answer(
     fd: i32,
@@ -129,6 +161,7 @@ fn answer(
     let outcome = tool_answers::outcome_of(command, scale, request.kind, input, out, a, b, c);
     match outcome {
         Outcome::Done(n) => deliver(fd, about, request, number, input, out, n),
+        Outcome::Listed(extent) => deliver_list(fd, about, request, number, input, out, extent),
         Outcome::Refused(refusal) => refusals::say_refusal(from, command, scale, input, refusal),
         Outcome::Faulty(fault) => refusals::say_fault(from, fault),
     }
@@ -405,6 +438,7 @@ fn run(
         command,
         scale,
         kind,
+        rungs: options.rungs != 0,
         first,
         headed,
     };

@@ -1,14 +1,16 @@
 -- Laws of a listing's file: what counting it gives, the room it takes, and its three parts written one after the other.
-use mathlib.Core.Path.{_≡_, sym, ap, ap₂, _∙_}
+use mathlib.Core.Path.{_≡_, refl, sym, ap, ap₂, _∙_}
+use mathlib.Core.Bool.{true}
 use mathlib.Core.List.{List, _++_, append-assoc}
 use Prim.Native.Nat.{ℕ, suc, _+_, _*_, _-_, _/_, _≤_, _<_}
 use native.Mathlib.Omega.{arith}
-use borrow.Author.Tests.{lt-ltb, le-ltb}
+use borrow.Author.Tests.{lt-ltb, le-ltb, eq-eqb}
 use lib.ListN.{length, getD, set, take, drop, length-append, length-drop}
 use lib.Seq.{take-append-seam, drop-at, length-take-le, getD-drop, paste, paste-zero, paste-suc}
 use Rattle.geometry.specs.declared.Head.{Head}
 use Rattle.geometry.specs.declared.Plunge.{Plunge}
 use Rattle.geometry.specs.Sizes.{sizeOf}
+use Rattle.theory.specs.Climbed.{erosionCount}
 use Rattle.theory.specs.Listing.{listing}
 use Rattle.refusal.specs.Refusals.{largestErosion}
 use Rattle.fields.specs.Fields.{headField, plungeFields, endField, fileLength, encoded, plungeBytes, place}
@@ -61,6 +63,10 @@ module _ (p : Head) (file : List ℕ) (qs : List Plunge) (old new : List ℕ) (t
   pub counted-end : t .at ≡ place p (length qs)
   counted-end = s .place ∙ fields-place p qs
 
+  -- it goes to the end
+  pub counted-whole : t .like ≡ true
+  counted-whole = s .like ∙ eq-eqb (length (plungeFields (sizeOf p) qs)) (length (plungeFields (sizeOf p) qs)) refl
+
   -- what it kept
   pub counted-kept : length old ≡ stageLength → KeptPlunges p new (t .at) qs
   counted-kept l h =
@@ -91,11 +97,11 @@ module _ (p : Head) (m old new : List ℕ) where
       record { answer = rw (lt-ltb _ _ l) (ap (λ (k : ℕ). Unlisted (record { number = 5; place = k })) e); bytes = rw (lt-ltb _ _ l) g }
 
   -- long enough: the whole file, and what lay past it
-  pub answered-long : (n k : ℕ) → n ≡ fileLength p (length qs) → k ≡ length qs → n ≤ length old → new ≡ encoded p qs ++ drop (length (encoded p qs)) old
-      → ListedInto p m old new (Listed (record { bytes = n; plunges = k }))
-  answered-long n k e f h g =
+  pub answered-long : (n k j : ℕ) → n ≡ fileLength p (length qs) → k ≡ length qs → j ≡ erosionCount p m → n ≤ length old
+      → new ≡ encoded p qs ++ drop (length (encoded p qs)) old → ListedInto p m old new (Listed (record { bytes = n; plunges = k; erosions = j }))
+  answered-long n k j e f d h g =
       let l : fileLength p (length qs) ≤ length old = omega arith in
-      record { answer = rw (le-ltb _ _ l) (λ i. Listed (record { bytes = e i; plunges = f i })); bytes = rw (le-ltb _ _ l) g }
+      record { answer = rw (le-ltb _ _ l) (λ i. Listed (record { bytes = e i; plunges = f i; erosions = d i })); bytes = rw (le-ltb _ _ l) g }
 
 -- head, plunges and end, each written where the last one ended
 module _ (p : Head) (qs : List Plunge) (old : List ℕ) (h : fileLength p (length qs) ≤ length old) where

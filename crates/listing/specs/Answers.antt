@@ -1,4 +1,4 @@
--- To be believed: what a listing answers (document 01, "Refusals in their order").
+-- To be believed: what a listing answers (document 01, "Refusals in their order"; document 02, N5).
 use mathlib.Core.List.{List, [], _∷_}
 use Prim.Native.Nat.{ℕ}
 use lib.Dec.{ltb}
@@ -16,7 +16,7 @@ use Rattle.listing.specs.declared.ListAnswer.the-variants.{Listed, Unlis
 abbrev pub roomTrials : ℕ → List ℕ → List Trial
 roomTrials n out = trial (ltb (length out) n) 5 n ∷ []
 
--- the answer to a verdict on a list: how long its file is and how many plunges it has, or the refusal
-abbrev pub listAnswer : Verdict → Head → List Plunge → ListAnswer
-listAnswer Accepted p qs = Listed (record { bytes = fileLength p (length qs); plunges = length qs })
-listAnswer (Refused r) p qs = Unlisted r
+-- the answer to a verdict on a list: how long its file is, how many plunges it has and "how many rungs were climbed", or the refusal
+abbrev pub listAnswer : Verdict → Head → List Plunge → ℕ → ListAnswer
+listAnswer Accepted p qs rungs = Listed (record { bytes = fileLength p (length qs); plunges = length qs; erosions = rungs })
+listAnswer (Refused r) p qs rungs = Unlisted r

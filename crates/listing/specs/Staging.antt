@@ -6,6 +6,7 @@ use lib.ListN.{length, take, drop}
 use Rattle.geometry.specs.declared.Head.{Head}
 use Rattle.geometry.specs.declared.Plunge.{Plunge}
 use Rattle.geometry.specs.Sizes.{sizeOf}
+use Rattle.theory.specs.Climbed.{erosionCount}
 use Rattle.theory.specs.Listing.{listing}
 use Rattle.refusal.specs.declared.Verdict.{Verdict}
 use Rattle.refusal.specs.Refusals.{firstMet, largestErosion, written}
@@ -28,7 +29,7 @@ KeptPlunges p kept end qs = end ≤ stageLength → take (end - place p 0) (drop
 
 -- the listing of a relief, answered and written to an output
 pub record ListedInto (p : Head) (m old new : List ℕ) (r : ListAnswer) : Type 0 where
-  pub answer : r ≡ listAnswer (roomVerdict p m old) p (listing p largestErosion m)
+  pub answer : r ≡ listAnswer (roomVerdict p m old) p (listing p largestErosion m) (erosionCount p m)
   pub bytes : new ≡ written (roomVerdict p m old) (encoded p (listing p largestErosion m)) old
 
 -- what writing the plunges asks: those that were kept end where the count ended, and the output has room for all

@@ -15,10 +15,11 @@ ghost use Rattle.listing_plunges.specs.Listable.{Listable};
 ghost use Rattle.fields.specs.Writing.{spliced};
 ghost use Rattle.listing.specs.Staging.{Puttable, ListedInto};
 
-// How long a file is, and how many plunges it has.
+// How long a list's file is, how many plunges it has, and how many erosions its relief took until it was bare: the rungs climbed.
 pub struct Extent {
     pub bytes: usize,
     pub plunges: usize,
+    pub erosions: usize,
 }
 
 // What a listing answers.
@@ -78,7 +79,7 @@ pub fn list_into(
 {
     let mut kept = [0u8; STAGE];
     let counted = listing_plunges::send_listing(head, Pass::Stage, relief, relief, &mut kept, a, b);
-    let end = counted.at;
+    let end = counted.progress.at;
     let plunges = (end - fields::place(head, 0)) / fields::plunge_bytes(head.size());
     let bytes = end + fields::END_BYTES;
     if out.len() < bytes {
@@ -90,5 +91,9 @@ pub fn list_into(
     fields::put_head(out, head);
     put_plunges(head, relief, &kept, end, out, a, b);
     fields::put_end(out, end, plunges);
-    ListAnswer::Listed(Extent { bytes, plunges })
+    ListAnswer::Listed(Extent {
+        bytes,
+        plunges,
+        erosions: counted.erosions,
+    })
 }

@@ -11,8 +11,6 @@ ghost use lib.ListN.{length, getD, drop};
 ghost use Rattle.theory.specs.Listing.{listing};
 ghost use Rattle.geometry.specs.Lists.{common};
 ghost use Rattle.refusal.specs.Refusals.{largestSide, largestErosion};
-ghost use Rattle.buffers.specs.Fill.{PlateOnly};
-ghost use Rattle.geometry.specs.Sizes.{sizeOf};
 ghost use Rattle.fields.specs.Fields.{plungeBytes, place, plungeField, plungeFields};
 ghost use Rattle.fields.specs.Fits.{PlungeFits};
 ghost use Rattle.fields.specs.Lengths.{IsLength};
@@ -20,13 +18,19 @@ ghost use Rattle.fields.specs.Writing.{spliced};
 ghost use Rattle.residue_marks.specs.Marks.{markPlaces};
 ghost use Rattle.climb.specs.Climbs.{plungeOf, foundPlunges, FoundMarks};
 ghost use Rattle.listing_pass.specs.Sent.{Compared, Staged, Sent, Room};
-ghost use Rattle.listing_plunges.specs.Listable.{Listable};
+ghost use Rattle.listing_plunges.specs.Listable.{Listable, ListingSent};
 ghost use Rattle.listing_plunges.specs.Runs.{PlaceOf, Bounded, NotedAt, notedPlunge, ToSend};
 
 // What is done with the plunges of a run, and the size of their fields.
 pub struct Sending {
     pub pass: Pass,
     pub size: Size,
+}
+
+// Where a listing was sent to, and how many erosions its climb took if it was sent to its end.
+pub struct SentListing {
+    pub progress: Progress,
+    pub erosions: usize,
 }
 
 // The plunge of a run's place: place n is column n % width of row n / width of its region.
@@ -204,11 +208,11 @@ pub fn send_listing(
     out: &mut [u8],
     a: &mut [u8],
     b: &mut [u8],
-) -> Progress
+) -> SentListing
     requires { ⌜ Listable head (now relief) (now a) (now b)
         × Room pass (place head (length (listing head largestErosion (now relief)))) (now out) ⌝ }
-    ensures { λ r. ⌜ Sent pass (now (file .entry)) (place head 0) (plungeFields (sizeOf head) (listing head largestErosion (now (relief .entry))))
-        (now (out .entry)) (now (out .exit)) r × PlateOnly head (now (a .entry)) (now (a .exit)) × PlateOnly head (now (b .entry)) (now (b .exit)) ⌝ }
+    ensures { λ r. ⌜ ListingSent pass head (now (relief .entry)) (now (file .entry)) (now (out .entry)) (now (out .exit)) (now (a .entry)) (now (a .exit))
+        (now (b .entry)) (now (b .exit)) r ⌝ }
 {
     let mut marks = [0u8; residue_marks::MARK_PLACES];
     let mut noted = [0u16; residue_marks::MARK_PLACES];
@@ -222,14 +226,21 @@ pub fn send_listing(
         let step = climb::next(climb, a, b, &mut marks);
         let sent = send_run(sending, step.found, &marks, &mut noted, file, out, place);
         if !sent.like {
-            return sent;
+            return SentListing {
+                progress: sent,
+                erosions: 0,
+            };
         }
         place = sent.at;
         let next = step.next;
         climb = next;
     }
-    Progress {
+    let progress = Progress {
         at: place,
         like: true,
+    };
+    SentListing {
+        progress,
+        erosions: climb::erosions_taken(climb),
     }
 }

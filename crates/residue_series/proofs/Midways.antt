@@ -16,6 +16,7 @@ use Rattle.geometry.specs.Lists.{gather}
 use Rattle.geometry.specs.Plane.{Cell, cell}
 use Rattle.geometry.specs.Plate.{On, area, at}
 use Rattle.theory.specs.Erosion.{erosion, highestNear, residue}
+use Rattle.theory.specs.Climbed.{Bare}
 use Rattle.theory.specs.Near.{lowestNear}
 use Rattle.theory.proofs.Plate.{on-or-off, at-cell}
 use Rattle.theory.proofs.Lists.{gather-same}
@@ -27,7 +28,7 @@ use Rattle.residue_marks.specs.declared.Places.{Places}
 use Rattle.residue_marks.specs.declared.Swept.{Swept}
 use Rattle.residue_marks.specs.Marks.{markPlaces, placeCell, lowNear, highNear, marksOf, SweepBuffers, Sweep}
 use Rattle.residue_series.specs.Plunges.{placeListed, plungeAt, onMark, marksTo}
-use Rattle.residue_series.specs.Stands.{Bare, Midway, PairMidway, PairToSweep, PairSweep}
+use Rattle.residue_series.specs.Stands.{Midway, PairMidway, PairToSweep, PairSweep}
 use Rattle.residue_series.proofs.Gather.{gather-from}
 use Rattle.residue_series.proofs.Plunges.{mark-listed, unmarked-none, erosion-north, erosion-south, row-above, row-beneath}
 

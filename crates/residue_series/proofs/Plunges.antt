@@ -27,7 +27,7 @@ use Rattle.theory.proofs.Plate.{on-or-off}
 use Rattle.theory.proofs.Erosion.{erosion-is, erosion-off}
 use Rattle.theory.proofs.Listing.{listing-stops}
 use Rattle.residue_marks.specs.Marks.{markOf, counted, tally}
-use Rattle.residue_series.specs.Stands.{Bare}
+use Rattle.residue_series.specs.Stands.{Last}
 use Rattle.residue_series.specs.Plunges.{listedReach, placeListed, soFar, onMark, marksTo}
 use Rattle.residue_series.proofs.Gather.{gather-on, gather-turn, gather-none, gather-stops, gather-flat}
 
@@ -170,7 +170,7 @@ module _ (p : Head) (m : List ℕ) (wide : 1 ≤ p .width) where
           place-none k j (omega arith) (erosion-north p m k (j % w) (j / w) (row-above w k (j % w) (j / w) (omega arith)))
 
 -- the whole listing, where no reach is left or an erosion is bare: "later rungs can give no plunge"
-pub reaches-end : (p : Head) (m : List ℕ) (k limit : ℕ) → k ≤ limit → (k ≡ limit) ⊎ Bare p m k
+pub reaches-end : (p : Head) (m : List ℕ) (k limit : ℕ) → k ≤ limit → Last p m limit k
     → listing p limit m ≡ gather k 0 (listedReach p m)
 unfolding listing
 reaches-end p m k limit h (inl e) = ap (λ (j : ℕ). gather j 0 (listedReach p m)) (sym e)

@@ -15,6 +15,7 @@ use Rattle.geometry.specs.Lists.{gather}
 use Rattle.geometry.specs.Plane.{Cell, cell}
 use Rattle.geometry.specs.Plate.{On, area, at}
 use Rattle.theory.specs.Erosion.{erosion}
+use Rattle.theory.specs.Climbed.{Bare}
 use Rattle.theory.specs.Listing.{listing}
 use Rattle.theory.proofs.Plate.{on-or-off, at-cell}
 use Rattle.theory.proofs.Erosion.{erosion-zero, erosion-off}
@@ -26,7 +27,7 @@ use Rattle.residue_marks.specs.declared.Swept.{Swept}
 use Rattle.residue_marks.specs.Marks.{markPlaces}
 use Rattle.residue_series.specs.declared.Stand.{Stand}
 use Rattle.residue_series.specs.Plunges.{listedReach, placeListed, soFar}
-use Rattle.residue_series.specs.Stands.{Bare, Due, Tops, Midway, PairMidway, Level, Standing, listedTo, PairSweep}
+use Rattle.residue_series.specs.Stands.{Due, Last, Tops, Midway, PairMidway, Level, Standing, listedTo, PairSweep}
 use Rattle.residue_series.specs.Stands.{LastResidue, Advanced, Startable, Started, RunEnd, Taken, TakenOf}
 use Rattle.residue_series.proofs.Gather.{gather-parts, gather-turn}
 use Rattle.residue_series.proofs.Plunges.{reach-places, erosion-gone, so-far-more, so-far-level, so-far-next, reaches-end}
@@ -99,6 +100,7 @@ module _ (p : Head) (limit k here n : ℕ) (from : ℕ) (level : Level p limit k
           due = due;
           pair = q;
         };
+        ended = λ t. absurd (true≢false t);
         listed = λ l. refl;
         same = refl;
         less = λ places g l. omega arith;
@@ -109,11 +111,12 @@ module _ (p : Head) (limit k here n : ℕ) (from : ℕ) (level : Level p limit k
     over = let e = width-more p k (level .some) in omega arith
 
     -- at its end
-    pub ends : (m a b : List ℕ) → (k ≡ limit) ⊎ Bare p m k
+    pub ends : (m a b : List ℕ) → Last p m limit k
         → Advanced p m limit k n a b (record { limit = limit; number = k; here = here; place = n; top = top; more = false })
     ends m a b o =
         record {
-          stands = λ t. let z : _≡_ {A = ℕ} 0 1 = cc in absurd (omega arith);
+          stands = λ t. absurd (true≢false (sym t));
+          ended = λ t. (refl, o);
           listed = λ l. reaches-end p m k limit (level .last) o
               ∙ sym (so-far-level p m (level .sides .wide) k n (level .some) (omega arith) over);
           same = refl;
@@ -136,9 +139,10 @@ module _ (p : Head) (limit k here n : ℕ) (from : ℕ) (level : Level p limit k
               first = omega (arith, f);
               place = omega (arith, f);
             };
-            due = λ i z. pair-deep p m k here n top a b q d (subst (Bare p m) e z);
+            due = λ z. pair-deep p m k here n top a b q d (subst (Bare p m) e z);
             pair = pair-next p m k here n top a b q (level .some) over;
           };
+          ended = λ t. absurd (true≢false t);
           listed = λ i. so-far-next p m (level .sides .wide) k (omega arith)
               ∙ sym (so-far-level p m (level .sides .wide) k n (level .some) (omega arith) over);
           same = refl;
@@ -179,7 +183,7 @@ started p limit m b b′ v here s e top =
           first = omega (arith, zero-mul (p .width));
           place = omega (arith, zero-mul (p .width), mul-le-mul (s .sides .tall) (s .sides .wide));
         };
-        due = λ i. absurd (omega arith);
+        due = s .deep;
         pair = record { even = λ z. absurd (omega arith); odd = λ z. first };
       };
       listed = refl;
@@ -253,6 +257,7 @@ module _ (p : Head) (s : Stand) (a a′ b b′ marks marks′ : List ℕ) (end :
       let marked = pair-marked p m (s .number) (s .here) (s .place) (s .top) a b (t .pair) _ a′ b′ marks marks′ w swept refl (level .sides .wide) (level .some) within in
       record {
         stands = on m t .stands;
+        ended = on m t .ended;
         marked = marked .0;
         none = marked .1;
         listed = on m t .listed (run .within) ∙ ap (soFar p m (s .number)) (sym at-end)

@@ -11,6 +11,7 @@ use Rattle.geometry.specs.Lists.{gather}
 use Rattle.geometry.specs.Plane.{Cell, cell}
 use Rattle.geometry.specs.Plate.{area}
 use Rattle.theory.specs.Erosion.{erosion}
+use Rattle.theory.specs.Climbed.{Bare}
 use Rattle.theory.specs.Listing.{listing}
 use Rattle.refusal.specs.Refusals.{largestErosion}
 use Rattle.refusal.specs.Sides.{Sides}
@@ -24,13 +25,13 @@ use Rattle.residue_series.specs.declared.Stand.{Stand}
 use Rattle.residue_series.specs.declared.Run.{Run}
 use Rattle.residue_series.specs.Plunges.{placeListed, soFar, plungeAt, marksTo}
 
--- "a rung has no depth above 0" (document 02, N3): the erosion is 0 everywhere
-abbrev pub Bare : Head → List ℕ → ℕ → Type 0
-Bare p m k = (c : Cell) → erosion p m k c ≡ 0
-
--- residue k is due: it is the first, or there is depth above 0 in rung k - 1. A climb that takes no others "shall end there"
+-- residue k is due: rung k - 1 is not bare. A climb that takes no others ends "once a rung has no depth above 0" (document 02, N3)
 abbrev pub Due : Head → List ℕ → ℕ → Type 0
-Due p m k = 2 ≤ k → Bare p m (k - 1) → ⊥
+Due p m k = Bare p m (k - 1) → ⊥
+
+-- residue k is the last: no later one is taken, or erosion k is bare
+abbrev pub Last : Head → List ℕ → ℕ → ℕ → Type 0
+Last p m limit k = (k ≡ limit) ⊎ Bare p m k
 
 -- r is no lower than any of the first n numbers of a map, and 0 where all of them are
 pub record Tops (n : ℕ) (m : List ℕ) (r : ℕ) : Type 0 where
@@ -99,25 +100,27 @@ pub record PairSweep (p : Head) (k : ℕ) (s : Places) (a a′ b b′ marks mark
   pub even : k % 2 ≡ 0 → (a′ ≡ a) × SweepOf p s b b′ a marks marks′ r
   pub odd : k % 2 ≡ 1 → (b′ ≡ b) × SweepOf p s a a′ b marks marks′ r
 
--- whether the residue where a series stands is its last: no later one is taken, or its erosion is bare ("later rungs can give no plunge")
+-- whether the residue where a series stands is its last ("later rungs can give no plunge")
 pub record LastResidue (p : Head) (s : Stand) (r : Bool) : Type 0 where
   pub ends : r ≡ true → (m : List ℕ) (n top : ℕ) (a b : List ℕ) → PairMidway p m (s .number) (s .here) n top a b
-      → (s .number ≡ s .limit) ⊎ Bare p m (s .number)
+      → Last p m (s .limit) (s .number)
   pub goes-on : r ≡ false → (s .number < s .limit) × (s .number * p .width + s .number * p .width < area p) × (s .here ≡ 0 → ⊥)
 
 -- r is where a series stands that has swept residue k up to place n
 pub record Advanced (p : Head) (m : List ℕ) (limit k n : ℕ) (a b : List ℕ) (r : Stand) : Type 0 where
   pub stands : r .more ≡ true → Standing p m r a b
+  pub ended : r .more ≡ false → (r .number ≡ k) × Last p m limit k
   pub listed : n + (k - 1) * p .width ≤ area p → listedTo p m r ≡ soFar p m k n
   pub same : r .limit ≡ limit
   pub less : (places : ℕ) → area p ≤ places → n ≤ area p → left places p r ≤ leftAt places p limit k n
 
--- what a series asks before its first run: a limit, a relief, and a buffer for its first erosion
+-- what a series asks before its first run: a limit, a relief that is not bare, and a buffer for its first erosion
 pub record Startable (p : Head) (limit : ℕ) (m b : List ℕ) : Type 0 where
   pub sides : Sides p
   pub some : 1 ≤ limit
   pub high : limit ≤ largestErosion
   pub relief : area p ≤ length m
+  pub deep : Bare p m 0 → ⊥
   pub room : area p ≤ length b
 
 -- a series before its first run
@@ -140,6 +143,7 @@ runListed p m k s = gather (s .number) (s .start) (placeListed p m (k - 1))
 -- a run of the residues of relief m: its marks are its plunges, and the series stands after them
 pub record TakenOf (p : Head) (m : List ℕ) (s : Stand) (a′ b′ marks′ : List ℕ) (r : Run) : Type 0 where
   pub stands : r .next .more ≡ true → Standing p m (r .next) a′ b′
+  pub ended : r .next .more ≡ false → (r .next .number ≡ s .number) × Last p m (s .limit) (s .number)
   pub marked : marksTo (r .places .number) (plungeAt (p .width) (s .number - 1)) (r .places .start) marks′ ≡ runListed p m (s .number) (r .places)
   pub none : r .deepest ≡ 0 → runListed p m (s .number) (r .places) ≡ []
   pub listed : listedTo p m (r .next) ≡ soFar p m (s .number) (s .place) ++ runListed p m (s .number) (r .places)

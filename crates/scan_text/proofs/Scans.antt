@@ -92,23 +92,23 @@ module _ (s out a b : List ℕ) (o : fileBuffer ≡ length out) (i : mostCells �
 
   module _ (out′ a′ b′ : List ℕ) where
     pub unlisted-text : (q : Refusal) → ListCall (depths s) k w h out out′ a a′ b b′ (Unlisted q) → refusalLine q ≡ plungesText s
-    unlisted-text q c = ap (λ (v : Verdict). answerText v (plateIn s) (plungesOf s)) (sym (sym verdict-same ∙ was _ (c .answer)))
+    unlisted-text q c = ap (λ (v : Verdict). answerText v (plateIn s) (plungesOf s)) (sym (sym verdict-same ∙ was _ _ (c .answer)))
       where
-        was : (v : Verdict) → Unlisted q ≡ listAnswer v (plateIn s) (plungesOf s) → v ≡ Refused q
-        was Accepted e = let z : _≡_ {A = ℕ} 0 1 = cc in absurd (omega arith)
-        was (Refused r) e = ap Refused cc
+        was : (v : Verdict) (n : ℕ) → Unlisted q ≡ listAnswer v (plateIn s) (plungesOf s) n → v ≡ Refused q
+        was Accepted n e = let z : _≡_ {A = ℕ} 0 1 = cc in absurd (omega arith)
+        was (Refused r) n e = ap Refused cc
 
     module _ (e : Extent) (c : ListCall (depths s) k w h out out′ a a′ b b′ (Listed e)) where
       abbrev file : List ℕ
       file = encoded (plateIn s) (plungesOf s)
 
-      known : (v : Verdict) → Listed e ≡ listAnswer v (plateIn s) (plungesOf s)
+      known : (v : Verdict) (n : ℕ) → Listed e ≡ listAnswer v (plateIn s) (plungesOf s) n
           → (v ≡ Accepted) × (e .bytes ≡ listLength s) × (e .plunges ≡ length (plungesOf s))
-      known Accepted g = (refl, cc, cc)
-      known (Refused r) g = let z : _≡_ {A = ℕ} 0 1 = cc in absurd (omega arith)
+      known Accepted n g = (refl, cc, cc)
+      known (Refused r) n g = let z : _≡_ {A = ℕ} 0 1 = cc in absurd (omega arith)
 
       was : (listVerdict (depths s) k w h out a b ≡ Accepted) × (e .bytes ≡ listLength s) × (e .plunges ≡ length (plungesOf s))
-      was = known _ (c .answer)
+      was = known _ _ (c .answer)
 
       long : length file ≡ e .bytes
       long = encoded-length (plateIn s) (plungesOf s) ∙ sym (was .1)

@@ -66,7 +66,7 @@ fn print_file(plate: Plate, file: &[u8]) {
 fn print_answer(answer: ListAnswer, out: &[u8]) -> usize {
     match answer {
         ListAnswer::Listed(extent) => {
-            test_io::print_listed(extent.bytes, extent.plunges);
+            test_io::print_listed(extent.bytes, extent.plunges, extent.erosions);
             print_rest(out, extent.bytes);
             extent.bytes
         }

@@ -170,7 +170,7 @@ fn print_work(a: &[u8], b: &[u8], c: &[u8], from: usize) {
 fn print_list(answer: ListAnswer, cells: usize, out: &[u8], a: &[u8], b: &[u8], c: &[u8]) -> usize {
     match answer {
         ListAnswer::Listed(extent) => {
-            test_io::print_listed(extent.bytes, extent.plunges);
+            test_io::print_listed(extent.bytes, extent.plunges, extent.erosions);
             print_output(out, extent.bytes);
             print_work(a, b, c, cells);
             extent.bytes

@@ -250,10 +250,11 @@ pub fn print_rest(out: &[u8], from: usize) {
     print_kept(b"rest", is_kept(out, from));
 }
 
-// A listing's answer: the file's bytes and its plunges.
-pub fn print_listed(bytes: usize, plunges: usize) {
+// A listing's answer: the file's bytes, its plunges, and the rungs climbed.
+pub fn print_listed(bytes: usize, plunges: usize, rungs: usize) {
     print_text(b"listed");
     print_next(bytes as u64);
     print_next(plunges as u64);
+    print_next(rungs as u64);
     print_text(b"\n");
 }

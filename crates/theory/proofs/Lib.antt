@@ -6,6 +6,7 @@ pub mod Erosion
 pub mod Residues
 pub mod Plunges
 pub mod Listing
+pub mod Climbed
 pub mod Order
 pub mod Drawing
 pub mod Canonical

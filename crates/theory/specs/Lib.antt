@@ -1,4 +1,5 @@
 pub mod Erosion
+pub mod Climbed
 pub mod Levels
 pub mod Listing
 pub mod Blocks

@@ -1,4 +1,5 @@
 // What a command makes of its input: bytes, a text, or a refusal.
+use listing::Extent;
 use listing::ListAnswer;
 use motion::MotionAnswer;
 use motion_floats::Scale;
@@ -13,9 +14,10 @@ ghost use Prim.Native.Nat.{_≤_};
 ghost use lib.ListN.{length};
 ghost use Rattle.reading.specs.Steps.{JobOf};
 
-// An answer, with its length where it is bytes, or a refusal, or what is wrong with a picture.
+// An answer, with its length where it is bytes, or a list's file, or a refusal, or what is wrong with a picture.
 pub enum Outcome {
     Done(usize),
+    Listed(Extent),
     Refused(Refusal),
     Faulty(PictureFault),
 }
@@ -25,7 +27,7 @@ const CELLS: usize = (refusal::LARGEST_SIDE as usize) * (refusal::LARGEST_SIDE a
 
 fn of_list(answer: ListAnswer) -> Outcome {
     match answer {
-        ListAnswer::Listed(extent) => Outcome::Done(extent.bytes),
+        ListAnswer::Listed(extent) => Outcome::Listed(extent),
         ListAnswer::Unlisted(refusal) => Outcome::Refused(refusal),
     }
 }

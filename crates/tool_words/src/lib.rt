@@ -26,14 +26,17 @@ pub enum Command {
 enum Word {
     Output,
     Kind,
+    Rungs,
     Unknown,
     Plain,
 }
 
-// The numbers of the words that name the output and the kind, 0 where there is none; and whether an option is wrong.
+// The numbers of the words that name the output and the kind and that ask for the rungs climbed, 0 where there is none; and whether an
+// option is wrong.
 pub struct Options {
     pub output: usize,
     pub kind: usize,
+    pub rungs: usize,
     pub wrong: bool,
 }
 
@@ -138,6 +141,9 @@ fn word_of(text: &[u8]) -> Word {
     if check::same(text, b"--kind") {
         return Word::Kind;
     }
+    if check::same(text, b"--rungs") {
+        return Word::Rungs;
+    }
     if looks_like_option(text) {
         return Word::Unknown;
     }
@@ -169,6 +175,7 @@ fn next(word: Word, number: usize, count: usize) -> usize
     match word {
         Word::Output => behind_value(number, count),
         Word::Kind => behind_value(number, count),
+        Word::Rungs => number + 1,
         Word::Unknown => number + 1,
         Word::Plain => number + 1,
     }
@@ -192,12 +199,14 @@ fn with_output(options: Options, number: usize, count: usize) -> Options
         return Options {
             output: 0,
             kind: options.kind,
+            rungs: options.rungs,
             wrong: true,
         };
     }
     Options {
         output: number + 1,
         kind: options.kind,
+        rungs: options.rungs,
         wrong: twice(options.output, options.wrong),
     }
 }
@@ -209,13 +218,24 @@ fn with_kind(options: Options, number: usize, count: usize) -> Options
         return Options {
             output: options.output,
             kind: 0,
+            rungs: options.rungs,
             wrong: true,
         };
     }
     Options {
         output: options.output,
         kind: number + 1,
+        rungs: options.rungs,
         wrong: twice(options.kind, options.wrong),
+    }
+}
+
+fn with_rungs(options: Options, number: usize) -> Options {
+    Options {
+        output: options.output,
+        kind: options.kind,
+        rungs: number,
+        wrong: twice(options.rungs, options.wrong),
     }
 }
 
@@ -232,9 +252,11 @@ fn with_word(options: Options, word: Word, number: usize, count: usize) -> Optio
     match word {
         Word::Output => with_output(options, number, count),
         Word::Kind => with_kind(options, number, count),
+        Word::Rungs => with_rungs(options, number),
         Word::Unknown => Options {
             output: options.output,
             kind: options.kind,
+            rungs: options.rungs,
             wrong: true,
         },
         Word::Plain => options,
@@ -247,6 +269,7 @@ pub fn given_options() -> Options {
     let mut options = Options {
         output: 0,
         kind: 0,
+        rungs: 0,
         wrong: false,
     };
     let mut i = 2;
@@ -265,6 +288,7 @@ fn is_plain(word: Word) -> bool {
         Word::Plain => true,
         Word::Output => false,
         Word::Kind => false,
+        Word::Rungs => false,
         Word::Unknown => false,
     }
 }
@@ -337,14 +361,8 @@ fn fits_plain(command: Command) -> bool {
     }
 }
 
-// Whether an option stands where it means something: a kind is for a scan.
-fn fits_options(command: Command, options: Options) -> bool {
-    if options.wrong {
-        return false;
-    }
-    if options.kind == 0 {
-        return true;
-    }
+// Whether a command makes a scan, which has a kind.
+fn makes_scan(command: Command) -> bool {
     match command {
         Command::Scan => true,
         Command::List => false,
@@ -360,6 +378,41 @@ fn fits_options(command: Command, options: Options) -> bool {
         Command::Version => false,
         Command::Unknown => false,
     }
+}
+
+// Whether a command climbs rungs and counts them.
+fn makes_list(command: Command) -> bool {
+    match command {
+        Command::List => true,
+        Command::Tidy => true,
+        Command::Scan => false,
+        Command::Draw => false,
+        Command::Check => false,
+        Command::Show => false,
+        Command::Info => false,
+        Command::Same => false,
+        Command::Motions => false,
+        Command::Picture => false,
+        Command::Help => false,
+        Command::Version => false,
+        Command::Unknown => false,
+    }
+}
+
+// Whether each option stands where it means something.
+fn fits_options(command: Command, options: Options) -> bool {
+    if options.wrong {
+        return false;
+    }
+    if options.kind != 0 {
+        if !makes_scan(command) {
+            return false;
+        }
+    }
+    if options.rungs == 0 {
+        return true;
+    }
+    makes_list(command)
 }
 
 // Without a name the input is standard input, but nobody is kept waiting at a terminal.

@@ -15,11 +15,11 @@ abbrev μ-loop : tie.MeasureT-loop
 loop-holds : tie.Need-loop-holds Inv-loop μ-loop
 loop-holds c = (omega arith, bare-none _ 0)
 
-element-copy-out-if1 : tie.Need-element-copy-out-if1 Inv-loop μ-loop
-element-copy-out-if1 c = omega arith
+shared-slice-read-if1 : tie.Need-shared-slice-read-if1 Inv-loop μ-loop
+shared-slice-read-if1 c = omega arith
 
 returns : tie.Need-returns Inv-loop μ-loop
-returns c = (omega arith, c .before .before .before .loop .inv .1)
+returns c = record { within = omega arith; under = c .before .before .before .loop .inv .1; set = λ l. omega (arith, c .if1 .taken) }
 
 add-first : tie.Need-add-first Inv-loop μ-loop
 add-first c = omega arith
@@ -31,7 +31,12 @@ loop-again : tie.Need-loop-again Inv-loop μ-loop
 loop-again c = (omega arith, bare-more _ _ _ (c .before .before .before .loop .inv .1) (omega (arith, c .if1 .left)))
 
 returns-2 : tie.Need-returns-2 Inv-loop μ-loop
-returns-2 c = (omega arith, bare-in _ _ _ _ _ (omega arith) (c .loop-test .left) (c .before .loop .inv .1))
+returns-2 c =
+    record {
+      within = omega arith;
+      under = bare-in _ _ _ _ _ (omega arith) (c .loop-test .left) (c .before .loop .inv .1);
+      set = λ l. absurd (omega arith);
+    }
 
 pub first-set-spec : {M : Type 1} → statement M
 first-set-spec =
@@ -40,7 +45,7 @@ first-set-spec =
     Inv-loop
     μ-loop
     loop-holds
-    element-copy-out-if1
+    shared-slice-read-if1
     returns
     add-first
     loop-less

@@ -14,15 +14,15 @@ end-set-requires c κs = search needs
 returns : tie.Need-returns
 returns c =
     let at-first = c .before .before in
-    spans-none _ _ _ _ (at-first .before .pre .0) (c .if1 .taken) (at-first .first-set .ensures .1) (c .before .end-set .ensures .1)
+    spans-none _ _ _ _ (at-first .before .before .pre .0) (c .if1 .taken) (at-first .first-set .ensures .under) (c .before .end-set .ensures .1)
 
-sub-t6 : tie.Need-sub-t6
-sub-t6 c = search needs
+sub-t8 : tie.Need-sub-t8
+sub-t8 c = search needs
 
 returns-2 : tie.Need-returns-2
 returns-2 c =
     let at-first = c .before .before in
-    spans-some _ _ _ _ (c .before .end-set .ensures .0) (omega arith) (at-first .first-set .ensures .1) (c .before .end-set .ensures .1)
+    spans-some _ _ _ _ (c .before .end-set .ensures .0) (omega arith) (at-first .first-set .ensures .under) (c .before .end-set .ensures .1)
 
 pub span-of-spec : {M : Type 1} → statement M
-span-of-spec = tie.close (tie.spec first-set-requires end-set-requires returns sub-t6 returns-2)
+span-of-spec = tie.close (tie.spec first-set-requires end-set-requires returns sub-t8 returns-2)

@@ -1,7 +1,7 @@
 -- `copy_region` copies the box outside of which the region is bare: `parts` says that this is its part.
 use mathlib.Core.Path.{sym, subst}
 use Rattle.climb.specs.Climbs.{RegionPart}
-use Rattle.climb.proofs.Climbs.{parts, part-copyable}
+use Rattle.climb.proofs.Beginnings.{parts, part-copyable}
 use borrow.Author.Needs.{needs}
 use Rattle.climb.proofs.copy_region.Statement.{statement}
 use Rattle.climb.proofs.copy_region.Tie as tie

@@ -2,7 +2,7 @@
 use mathlib.Core.Path.{sym, subst}
 use Rattle.bounding_box.proofs.Boxing.{within-croppable}
 use Rattle.climb.specs.Climbs.{RegionPart}
-use Rattle.climb.proofs.Climbs.{parts}
+use Rattle.climb.proofs.Beginnings.{parts}
 use borrow.Author.Needs.{needs}
 use Rattle.climb.proofs.crop_region.Statement.{statement}
 use Rattle.climb.proofs.crop_region.Tie as tie

@@ -49,8 +49,7 @@ settle-requires c κs =
     let at-is-turn = at-if1 .before in
     let at-start = at-is-turn .before .before .before in
     let turn = at-is-turn .is-turn .ensures (not-false _ (at-if1 .if1 .left)) in
-    let numbers = climbing-numbers _ _ _ _ _ _ (at-start .pre .climbs) (turn .more) in
-    turn-asks _ _ _ _ _ _ (at-start .pre .climbs) turn _ _ _ (omega (arith, numbers)) (at-crop-region .crop-region .ensures)
+    turn-asks _ _ _ _ _ _ (at-start .pre .climbs) turn _ _ (at-crop-region .crop-region .ensures)
 
 same-length : tie.Need-same-length
 same-length c = search needs

@@ -1,6 +1,6 @@
 -- `settle` starts the series of a region's residues: `settles` says where the climb is then.
 use mathlib.Core.Path.{refl}
-use Rattle.climb.proofs.Climbs.{settles}
+use Rattle.climb.proofs.Beginnings.{settles}
 use borrow.Author.Needs.{needs}
 use Rattle.climb.proofs.settle.Statement.{statement}
 use Rattle.climb.proofs.settle.Tie as tie

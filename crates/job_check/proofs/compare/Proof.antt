@@ -20,7 +20,7 @@ send-listing-requires c κs =
 
 place-requires : tie.Need-place-requires
 place-requires c κs =
-    let at-send-listing = c .before .before .before .before .before .before in
+    let at-send-listing = c .before .before .before .before .before .before .before in
     let at-start = at-send-listing .before .before .before .before .before .before .before .before in
     omega (
       arith,
@@ -38,12 +38,12 @@ returns : tie.Need-returns
 returns c =
     let at-place = c .before .before in
     let at-if1 = at-place .before in
-    let at-send-listing = at-if1 .before .before .before .before .before .before in
+    let at-send-listing = at-if1 .before .before .before .before .before .before .before in
     let at-start = at-send-listing .before .before .before .before .before .before .before .before in (
-      compared-like _ _ _ _ _ _ (at-start .pre) _ _ _ (at-send-listing .send-listing .ensures .0) (at-if1 .if1 .taken)
+      compared-like _ _ _ _ _ _ (at-start .pre) _ _ _ (at-send-listing .send-listing .ensures .sent) (at-if1 .if1 .taken)
           (c .if2 .taken ∙ at-place .place .ensures),
-      at-send-listing .send-listing .ensures .1,
-      at-send-listing .send-listing .ensures .2,
+      at-send-listing .send-listing .ensures .first,
+      at-send-listing .send-listing .ensures .second,
     )
 
 same-length-3 : tie.Need-same-length-3
@@ -56,12 +56,12 @@ returns-2 : tie.Need-returns-2
 returns-2 c =
     let at-place = c .before .before in
     let at-if1 = at-place .before in
-    let at-send-listing = at-if1 .before .before .before .before .before .before in
+    let at-send-listing = at-if1 .before .before .before .before .before .before .before in
     let at-start = at-send-listing .before .before .before .before .before .before .before .before in (
-      compared-unlike _ _ _ _ _ _ (at-start .pre) _ _ _ (at-send-listing .send-listing .ensures .0)
+      compared-unlike _ _ _ _ _ _ (at-start .pre) _ _ _ (at-send-listing .send-listing .ensures .sent)
           (λ l e. c .if2 .left (e ∙ sym (at-place .place .ensures))),
-      at-send-listing .send-listing .ensures .1,
-      at-send-listing .send-listing .ensures .2,
+      at-send-listing .send-listing .ensures .first,
+      at-send-listing .send-listing .ensures .second,
     )
 
 same-length-5 : tie.Need-same-length-5
@@ -72,12 +72,12 @@ same-length-6 c = search needs
 
 returns-3 : tie.Need-returns-3
 returns-3 c =
-    let at-send-listing = c .before .before .before .before .before .before in
+    let at-send-listing = c .before .before .before .before .before .before .before in
     let at-start = at-send-listing .before .before .before .before .before .before .before .before in (
-      compared-unlike _ _ _ _ _ _ (at-start .pre) _ _ _ (at-send-listing .send-listing .ensures .0)
+      compared-unlike _ _ _ _ _ _ (at-start .pre) _ _ _ (at-send-listing .send-listing .ensures .sent)
           (λ l e. not-both (sym l ∙ c .if1 .left)),
-      at-send-listing .send-listing .ensures .1,
-      at-send-listing .send-listing .ensures .2,
+      at-send-listing .send-listing .ensures .first,
+      at-send-listing .send-listing .ensures .second,
     )
 
 pub compare-spec : {M : Type 1} → statement M

@@ -8,7 +8,7 @@ use Rattle.geometry.specs.declared.Size.{Size}
 use lib.ListN.{length}
 use native.Mathlib.Omega.{arith}
 use mathlib.Core.Path.{refl, ap, _∙_}
-use Rattle.listing.proofs.Files.{stage-writes-not, counted-end, counted-kept, plunges-of, answered-short, answered-long, head-same, file-whole}
+use Rattle.listing.proofs.Files.{stage-writes-not, counted-end, counted-whole, counted-kept, plunges-of, answered-short, answered-long, head-same, file-whole}
 use borrow.Author.Needs.{needs}
 use Rattle.listing.proofs.list_into.Statement.{statement}
 use Rattle.listing.proofs.list_into.Tie as tie
@@ -61,7 +61,7 @@ add-bytes c =
     omega (
       arith,
       counted-end (given .head) (given .relief .now) (listing (given .head) largestErosion (given .relief .now)) _ _ _
-          (at-send-listing .send-listing .ensures .0),
+          (at-send-listing .send-listing .ensures .sent),
       place-small (given .head) (length (listing (given .head) largestErosion (given .relief .now))) {k = 4294967296}
           (omega (arith, listing-few (given .head) (given .relief .now) (at-start .pre .sides))),
     )
@@ -84,10 +84,10 @@ returns c =
           (omega (
             arith,
             counted-end (given .head) (given .relief .now) (listing (given .head) largestErosion (given .relief .now)) _ _ _
-                (at-send-listing .send-listing .ensures .0),
+                (at-send-listing .send-listing .ensures .sent),
           )) (omega arith) refl,
-      at-send-listing .send-listing .ensures .1,
-      at-send-listing .send-listing .ensures .2,
+      at-send-listing .send-listing .ensures .first,
+      at-send-listing .send-listing .ensures .second,
     )
 
 -- src/lib.rt:90:5
@@ -104,15 +104,15 @@ put-plunges-requires c κs =
     let given = at-start .args in
     let counted =
     counted-end (given .head) (given .relief .now) (listing (given .head) largestErosion (given .relief .now)) _ _ _
-    (at-send-listing .send-listing .ensures .0) in
+    (at-send-listing .send-listing .ensures .sent) in
     record {
       listable = record {
         sides = at-start .pre .sides;
         relief = at-start .pre .relief;
-        first = omega (arith, at-start .pre .first, at-send-listing .send-listing .ensures .1 .same);
-        second = omega (arith, at-start .pre .second, at-send-listing .send-listing .ensures .2 .same);
+        first = omega (arith, at-start .pre .first, at-send-listing .send-listing .ensures .first .same);
+        second = omega (arith, at-start .pre .second, at-send-listing .send-listing .ensures .second .same);
       };
-      stage = omega (arith, at-send-listing .send-listing .ensures .0 .bytes .0);
+      stage = omega (arith, at-send-listing .send-listing .ensures .sent .bytes .0);
       counted = counted;
       room = omega (
         arith,
@@ -122,7 +122,7 @@ put-plunges-requires c κs =
       );
       plunges =
           counted-kept (given .head) (given .relief .now) (listing (given .head) largestErosion (given .relief .now)) _ _ _
-          (at-send-listing .send-listing .ensures .0) (omega arith);
+          (at-send-listing .send-listing .ensures .sent) (omega arith);
     }
 
 -- src/lib.rt:92:5
@@ -155,19 +155,22 @@ returns-2 c =
     let given = at-start .args in
     let e =
     counted-end (given .head) (given .relief .now) (listing (given .head) largestErosion (given .relief .now)) _ _ _
-    (at-send-listing .send-listing .ensures .0) in
+    (at-send-listing .send-listing .ensures .sent) in
     let l = at-if1 .if1 .left in (
-      answered-long (given .head) (given .relief .now) (given .out .now) _ _ _ (omega (arith, e))
+      answered-long (given .head) (given .relief .now) (given .out .now) _ _ _ _ (omega (arith, e))
           (plunges-of (given .head) _ _ _ _ e (at-place .place .ensures)
           (at-plunge-bytes .plunge-bytes .ensures ∙ ap (λ (s : Size). plungeBytes s) (at-size .size .ensures)))
+          (at-send-listing .send-listing .ensures .counted
+          (counted-whole (given .head) (given .relief .now) (listing (given .head) largestErosion (given .relief .now)) _ _ _
+          (at-send-listing .send-listing .ensures .sent)))
           (omega (arith, l))
           (file-whole (given .head) (listing (given .head) largestErosion (given .relief .now)) (given .out .now)
           (omega (arith, e, l)) _ _ _ _ _ _ refl (at-put-head .put-head .ensures) (at-put-plunges .put-plunges .ensures .0) e
           (plunges-of (given .head) _ _ _ _ e (at-place .place .ensures)
           (at-plunge-bytes .plunge-bytes .ensures ∙ ap (λ (s : Size). plungeBytes s) (at-size .size .ensures)))
           (c .before .before .put-end .ensures)),
-      kept-more _ _ _ _ (at-send-listing .send-listing .ensures .1) (at-put-plunges .put-plunges .ensures .1),
-      kept-more _ _ _ _ (at-send-listing .send-listing .ensures .2) (at-put-plunges .put-plunges .ensures .2),
+      kept-more _ _ _ _ (at-send-listing .send-listing .ensures .first) (at-put-plunges .put-plunges .ensures .1),
+      kept-more _ _ _ _ (at-send-listing .send-listing .ensures .second) (at-put-plunges .put-plunges .ensures .2),
     )
 
 pub list-into-spec : {M : Type 1} → statement M

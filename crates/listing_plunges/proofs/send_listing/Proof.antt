@@ -1,10 +1,12 @@
 -- `send_listing` sends run after run: the invariant is where the climb is, and that what it has listed is sent.
 use mathlib.Core.Path.{_≡_, refl, sym, _∙_}
+use mathlib.Core.Bool.{true≢false}
 use borrow.Author.Tests.{not-true, not-false}
 use lib.ListN.{length}
 use Rattle.erosion_series.proofs.Pairs.{kept-more}
 use Rattle.residue_marks.specs.Marks.{markPlaces}
 use Rattle.climb.specs.Climbs.{leftOf}
+use Rattle.climb.proofs.Climbs.{climbing-few}
 use Rattle.listing_plunges.proofs.Listings.{Listed, listed-start, listed-plate, listed-asks, listed-more, listed-stops, listed-kept, listed-end}
 use native.Mathlib.Omega.{arith}
 use borrow.Author.Needs.{needs}
@@ -112,19 +114,19 @@ returns c =
     let at-loop = at-next .before .before .before .before .before in
     let at-begin = at-loop .before .before .before .before .before in
     let at-size = at-begin .before .before .before .before in
-    let at-start = at-size .before .before .before .before .before .before in (
-      listed-stops _ _ _ _ _ _ _ _ _ _ _ _ (at-start .pre .1)
-          (listed-plate _ _ _ _ _ _ _ _ _ _ _ _ _ (at-begin .begin .ensures .climbs .plate) (at-loop .loop .inv .2)) _ _ _ _
-          (at-next .next .ensures) _ _ _ (at-size .size .ensures) (at-send-run .send-run .ensures .0) (not-true _ (c .if1 .taken)),
-      kept-more _ _ _ _ (at-begin .begin .ensures .first)
-          (listed-kept _ _ _ _ _ _ _ _ _ _ _ _ (at-start .pre .1)
-          (listed-plate _ _ _ _ _ _ _ _ _ _ _ _ _ (at-begin .begin .ensures .climbs .plate) (at-loop .loop .inv .2)) _ _ _ _
-          (at-next .next .ensures) _ _ _ (at-size .size .ensures) (at-send-run .send-run .ensures .0) .1),
-      kept-more _ _ _ _ (at-begin .begin .ensures .second)
-          (listed-kept _ _ _ _ _ _ _ _ _ _ _ _ (at-start .pre .1)
-          (listed-plate _ _ _ _ _ _ _ _ _ _ _ _ _ (at-begin .begin .ensures .climbs .plate) (at-loop .loop .inv .2)) _ _ _ _
-          (at-next .next .ensures) _ _ _ (at-size .size .ensures) (at-send-run .send-run .ensures .0) .2),
-    )
+    let at-start = at-size .before .before .before .before .before .before in
+    let listed = listed-plate _ _ _ _ _ _ _ _ _ _ _ _ _ (at-begin .begin .ensures .climbs .plate) (at-loop .loop .inv .2) in
+    let kept =
+    listed-kept _ _ _ _ _ _ _ _ _ _ _ _ (at-start .pre .1) listed _ _ _ _ (at-next .next .ensures) _ _ _ (at-size .size .ensures)
+    (at-send-run .send-run .ensures .0) in
+    let unlike = not-true _ (c .if1 .taken) in
+    record {
+      sent = listed-stops _ _ _ _ _ _ _ _ _ _ _ _ (at-start .pre .1) listed _ _ _ _ (at-next .next .ensures) _ _ _ (at-size .size .ensures)
+          (at-send-run .send-run .ensures .0) unlike;
+      counted = λ like. absurd (true≢false (sym like ∙ unlike));
+      first = kept-more _ _ _ _ (at-begin .begin .ensures .first) (kept .1);
+      second = kept-more _ _ _ _ (at-begin .begin .ensures .second) (kept .2);
+    }
 
 loop-less : tie.Need-loop-less Inv-loop μ-loop
 loop-less c =
@@ -149,32 +151,38 @@ loop-again c =
           (at-next .next .ensures) _ _ _ (at-size .size .ensures) (at-send-run .send-run .ensures .0) (not-false _ (c .before .if1 .left))),
     )
 
+erosions-taken-requires : tie.Need-erosions-taken-requires Inv-loop μ-loop
+erosions-taken-requires c κs = climbing-few _ _ _ _ _ _ (c .before .loop .inv .2 .climbs) (c .loop-test .left)
+
 same-length-4 : tie.Need-same-length-4 Inv-loop μ-loop
-same-length-4 c = c .before .loop .inv .2 .same
+same-length-4 c = c .before .before .loop .inv .2 .same
 
 same-length-5 : tie.Need-same-length-5 Inv-loop μ-loop
 same-length-5 c =
-    let at-begin = c .before .before .before .before .before .before in
-    c .before .loop .inv .2 .first .same ∙ at-begin .begin .ensures .first .same
+    let at-loop = c .before .before in
+    let at-begin = at-loop .before .before .before .before .before in
+    at-loop .loop .inv .2 .first .same ∙ at-begin .begin .ensures .first .same
 
 same-length-6 : tie.Need-same-length-6 Inv-loop μ-loop
 same-length-6 c =
-    let at-begin = c .before .before .before .before .before .before in
-    c .before .loop .inv .2 .second .same ∙ at-begin .begin .ensures .second .same
+    let at-loop = c .before .before in
+    let at-begin = at-loop .before .before .before .before .before in
+    at-loop .loop .inv .2 .second .same ∙ at-begin .begin .ensures .second .same
 
 returns-2 : tie.Need-returns-2 Inv-loop μ-loop
 returns-2 c =
-    let at-begin = c .before .before .before .before .before .before in
+    let at-loop = c .before .before in
+    let at-begin = at-loop .before .before .before .before .before in
     let at-size = at-begin .before .before .before .before in
-    let at-start = at-size .before .before .before .before .before .before in (
-      listed-end _ _ _ _ _ _ _ _ _ _ _ _ (at-start .pre .1)
-          (listed-plate _ _ _ _ _ _ _ _ _ _ _ _ _ (at-begin .begin .ensures .climbs .plate) (c .before .loop .inv .2))
-          (c .loop-test .left),
-      kept-more _ _ _ _ (at-begin .begin .ensures .first)
-          ((listed-plate _ _ _ _ _ _ _ _ _ _ _ _ _ (at-begin .begin .ensures .climbs .plate) (c .before .loop .inv .2)) .first),
-      kept-more _ _ _ _ (at-begin .begin .ensures .second)
-          ((listed-plate _ _ _ _ _ _ _ _ _ _ _ _ _ (at-begin .begin .ensures .climbs .plate) (c .before .loop .inv .2)) .second),
-    )
+    let at-start = at-size .before .before .before .before .before .before in
+    let listed = listed-plate _ _ _ _ _ _ _ _ _ _ _ _ _ (at-begin .begin .ensures .climbs .plate) (at-loop .loop .inv .2) in
+    let at-end = c .before .loop-test .left in
+    record {
+      sent = listed-end _ _ _ _ _ _ _ _ _ _ _ _ (at-start .pre .1) listed at-end;
+      counted = λ like. c .erosions-taken .ensures ∙ listed .climbs .ended at-end;
+      first = kept-more _ _ _ _ (at-begin .begin .ensures .first) (listed .first);
+      second = kept-more _ _ _ _ (at-begin .begin .ensures .second) (listed .second);
+    }
 
 pub send-listing-spec : {M : Type 1} → statement M
 send-listing-spec =
@@ -194,6 +202,7 @@ send-listing-spec =
     returns
     loop-less
     loop-again
+    erosions-taken-requires
     same-length-4
     same-length-5
     same-length-6
