@@ -11,6 +11,7 @@ use Rattle.geometry.specs.declared.Head.{Head}
 use Rattle.geometry.specs.Plane.{Cell, cell}
 use Rattle.geometry.specs.Plate.{area, at}
 use Rattle.theory.specs.Erosion.{erosion, highestNear, residue, largestResidue, residueSum}
+use Rattle.theory.specs.Climbed.{Bare}
 use Rattle.theory.proofs.Plate.{at-cell}
 use Rattle.theory.proofs.Erosion.{erosion-ended}
 use Rattle.theory.proofs.Residues.{residue-ended, residueSum-le, residueSum-more, largestResidue-more, residueSum-stops, largestResidue-stops}
@@ -27,7 +28,7 @@ use Rattle.erosion_series.proofs.Pairs.{mod-cases, turn-margins, pair-l
 -- ---- erosions
 
 -- where a series ended before its number, the erosion is 0 there and at the number
-pub eroded-to-same : (p : Head) (m : List ℕ) (number k : ℕ) → k ≤ number → (k ≡ number) ⊎ ((c : Cell) → erosion p m k c ≡ 0) → (c : Cell)
+pub eroded-to-same : (p : Head) (m : List ℕ) (number k : ℕ) → k ≤ number → (k ≡ number) ⊎ Bare p m k → (c : Cell)
     → erosion p m k c ≡ erosion p m number c
 eroded-to-same p m number k h (inl e) c = ap (λ (j : ℕ). erosion p m j c) e
 eroded-to-same p m number k h (inr z) c = z c ∙ sym (erosion-ended p m k number h z c)
@@ -92,7 +93,7 @@ residue-mapped p m k a b old zeroed new h q f e =
       surplus = λ n l. t .1 n l ∙ f .over n l;
     }
 
-pub residue-none : (p : Head) (m : List ℕ) (number k : ℕ) (old new : List ℕ) → 1 ≤ number → k < number → ((c : Cell) → erosion p m k c ≡ 0)
+pub residue-none : (p : Head) (m : List ℕ) (number k : ℕ) (old new : List ℕ) → 1 ≤ number → k < number → Bare p m k
     → Filled (λ n. 0) 0 (area p) old new → Mapped p (residue p m number) old new
 residue-none p m zero k old new a h z f = absurd (omega arith)
 residue-none p m (suc n) k old new a h z f =
@@ -138,23 +139,23 @@ score-none p m s old zeroed f = record {
   surplus = λ n a. refl;
 }
 
-score-stops : (p : Head) (m : List ℕ) (s : Score) (k limit : ℕ) → k ≤ limit → ((c : Cell) → erosion p m k c ≡ 0) → (c : Cell)
+score-stops : (p : Head) (m : List ℕ) (s : Score) (k limit : ℕ) → k ≤ limit → Bare p m k → (c : Cell)
     → scoreOf s p k m c ≡ scoreOf s p limit m c
 score-stops p m Largest k limit h z c = sym (largestResidue-stops p m k limit h z c)
 score-stops p m Sum k limit h z c = sym (residueSum-stops p m k limit h z c)
 
 -- at the end, or after an empty erosion, the score is whole
 pub score-done : (p : Head) (m : List ℕ) (s : Score) (k limit : ℕ) (old zeroed new : List ℕ) → k ≤ limit → (k ≡ limit)
-    ⊎ ((c : Cell) → erosion p m k c ≡ 0) → Filled (λ n. 0) 0 (area p) old zeroed → ScoreUpTo p s m k zeroed new → ScoreUpTo p s m limit old new
+    ⊎ Bare p m k → Filled (λ n. 0) 0 (area p) old zeroed → ScoreUpTo p s m k zeroed new → ScoreUpTo p s m limit old new
 score-done p m s k limit old zeroed new h g f e =
     record { same = e .same ∙ f .same; holds = λ x y a b. e .holds x y a b ∙ same g (cell x y); surplus = λ n a. e .surplus n a ∙ f .over n a }
   where
-    same : (k ≡ limit) ⊎ ((c : Cell) → erosion p m k c ≡ 0) → (c : Cell) → scoreOf s p k m c ≡ scoreOf s p limit m c
+    same : (k ≡ limit) ⊎ Bare p m k → (c : Cell) → scoreOf s p k m c ≡ scoreOf s p limit m c
     same (inl i) c = ap (λ (j : ℕ). scoreOf s p j m c) i
     same (inr z) c = score-stops p m s k limit h z c
 
 -- a series that ended before its number leaves no residue there
 pub residue-short : (p : Head) (m : List ℕ) (number k : ℕ) (old new : List ℕ) → 1 ≤ number → k ≤ number → (k ≡ number → ⊥) → (k ≡ number)
-    ⊎ ((c : Cell) → erosion p m k c ≡ 0) → Filled (λ n. 0) 0 (area p) old new → Mapped p (residue p m number) old new
+    ⊎ Bare p m k → Filled (λ n. 0) 0 (area p) old new → Mapped p (residue p m number) old new
 residue-short p m number k old new a h d (inl e) f = absurd (d e)
 residue-short p m number k old new a h d (inr z) f = residue-none p m number k old new a (omega arith) z f

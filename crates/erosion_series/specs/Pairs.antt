@@ -8,6 +8,7 @@ use Rattle.geometry.specs.declared.Head.{Head}
 use Rattle.geometry.specs.Plane.{Cell}
 use Rattle.geometry.specs.Plate.{area, at}
 use Rattle.theory.specs.Erosion.{erosion}
+use Rattle.theory.specs.Climbed.{Bare}
 use Rattle.residue_scores.specs.declared.Score.{Score}
 use Rattle.buffers.specs.Margin.{Margin}
 use Rattle.erosion_step.specs.Steps.{stepNumbers, Stepped}
@@ -78,7 +79,7 @@ pub record ErodedTo (p : Head) (m : List ℕ) (number : ℕ) (a b a′ b′ : Li
   pub second : PlateOnly p b b′
   pub upto : k ≤ number
   pub some : 1 ≤ number → 1 ≤ k
-  pub ended : (k ≡ number) ⊎ ((c : Cell) → erosion p m k c ≡ 0)
+  pub ended : (k ≡ number) ⊎ Bare p m k
 
 -- a map of a series: what the output holds, and two buffers of which only the plate's bytes were used
 pub record MapFilled (p : Head) (f : Cell → ℕ) (out out′ a a′ b b′ : List ℕ) : Type 0 where

@@ -18,9 +18,10 @@ use Rattle.geometry.specs.declared.Kind.the-variants.{Diamond, Square}
 use Rattle.geometry.specs.declared.Head.{Head}
 use Rattle.geometry.specs.declared.Plunge.{Plunge}
 use Rattle.geometry.specs.Lists.{gather}
-use Rattle.geometry.specs.Plane.{Cell, cell, gap, dist}
+use Rattle.geometry.specs.Plane.{cell, gap, dist}
 use Rattle.geometry.specs.Plate.{On, area, at}
 use Rattle.theory.specs.Erosion.{erosion, residue}
+use Rattle.theory.specs.Climbed.{Bare}
 use Rattle.theory.specs.Listing.{listedAt, listing}
 use Rattle.theory.proofs.Distance.{gap-self}
 use Rattle.theory.proofs.Plate.{on-or-off}
@@ -87,7 +88,7 @@ module _ (p : Head) (m : List ℕ) where
       omega (arith, erosion-is p m k (cell x y) .bound (cell x (p .height)) (down (p .kind) x y (pos (p .height)) k (omega arith)))
 
   -- where no row is left an erosion is 0 everywhere
-  pub erosion-gone : (k : ℕ) → p .height ≤ k + k → (c : Cell) → erosion p m k c ≡ 0
+  pub erosion-gone : (k : ℕ) → p .height ≤ k + k → Bare p m k
   erosion-gone k h c = go (on-or-off p c)
     where
       row : (x y : ℕ) → x < p .width → y < p .height → Dec (k ≤ y) → erosion p m k (cell x y) ≡ 0

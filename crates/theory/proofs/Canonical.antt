@@ -1,20 +1,21 @@
 -- The canonical form of a list: lists that draw the same relief have the same one, and only those; it draws the same relief, and is its own canonical form.
-use mathlib.Core.Path.{_≡_, refl, sym, ap, ap₂, _∙_, fun-ext}
+use mathlib.Core.Path.{_≡_, refl, sym, ap, ap₂, _∙_, subst, fun-ext}
 use mathlib.Core.Logic.{_↔_}
 use mathlib.Core.Bool.{cond}
 use mathlib.Core.List.{List, [], _∷_, map}
 use Prim.Native.Nat.{ℕ, zero, suc, _*_, _-_, _≤_, min}
-use lib.Dec.{eqb, ltb}
+use lib.Dec.{ltb}
 use lib.ListN.{take}
 use Rattle.geometry.specs.declared.Head.{Head}
 use Rattle.geometry.specs.declared.Plunge.{Plunge}
-use Rattle.geometry.specs.Lists.{gather, select, lowest, highest}
+use Rattle.geometry.specs.Lists.{Lowest, gather, lowest}
 use Rattle.geometry.specs.Plane.{Cell, cell, ball}
-use Rattle.geometry.specs.Plate.{at, area, tabulated}
+use Rattle.geometry.specs.Plate.{at, area}
 use Rattle.theory.specs.Erosion.{erosion, highestNear, residue}
 use Rattle.theory.specs.Climbed.{erosionCount}
 use Rattle.theory.specs.Listing.{listing, drawing, canonical}
 use Rattle.theory.proofs.Plate.{at-prefix}
+use Rattle.theory.proofs.Climbed.{count-is, count-unique}
 use Rattle.theory.proofs.Drawing.{at-drawing-listing}
 
 module _ (p : Head) where
@@ -24,11 +25,9 @@ module _ (p : Head) where
   erosion-same m n e = ap {B = ℕ → Cell → ℕ} (λ (f : Cell → ℕ) k c. lowest (f c) (map f (ball (p .kind) c k))) e
 
   pub count-same : (m n : List ℕ) → at p m ≡ at p n → erosionCount p m ≡ erosionCount p n
-  unfolding erosionCount
-  count-same m n e = ap by-erosions (erosion-same m n e)
-    where
-      by-erosions : (ℕ → Cell → ℕ) → ℕ
-      by-erosions f = lowest (p .height) (select (λ k. eqb (highest 0 (tabulated p (f k))) 0) (gather (p .height) 0 (λ k. k ∷ [])))
+  count-same m n e =
+      count-unique p n (erosionCount p m)
+      (subst (λ (f : ℕ → Cell → ℕ). Lowest (λ k. (c : Cell) → f k c ≡ 0) (λ k. k) (erosionCount p m)) (erosion-same m n e) (count-is p m))
 
   pub residue-same : (m n : List ℕ) → at p m ≡ at p n → (k : ℕ) → residue p m k ≡ residue p n k
   unfolding residue

@@ -52,8 +52,8 @@ module _ (p : Head) (m : List ℕ) where
 
   -- ---- the number
 
-  abbrev some : List ℕ
-  some = gather (p .height) 0 (λ k. k ∷ [])
+  abbrev numbers : List ℕ
+  numbers = gather (p .height) 0 (λ k. k ∷ [])
 
   count-extreme : (bs : List ℕ) → (lowest (p .height) bs ≤ p .height) × ((k : ℕ) → List·Memᴰ k bs → lowest (p .height) bs ≤ k)
       × ((lowest (p .height) bs ≡ p .height) ⊎ List·Memᴰ (lowest (p .height) bs) bs)
@@ -76,18 +76,18 @@ module _ (p : Head) (m : List ℕ) where
   unfolding erosionCount
   count-is = record { bound = λ k z. under k z (decLe (p .height) k); met = (erosionCount p m, bare-at (e .2), refl) }
     where
-      e : (erosionCount p m ≤ p .height) × ((k : ℕ) → List·Memᴰ k (select (bare p m) some) → erosionCount p m ≤ k)
-          × ((erosionCount p m ≡ p .height) ⊎ List·Memᴰ (erosionCount p m) (select (bare p m) some))
-      e = count-extreme (select (bare p m) some)
+      e : (erosionCount p m ≤ p .height) × ((k : ℕ) → List·Memᴰ k (select (bare p m) numbers) → erosionCount p m ≤ k)
+          × ((erosionCount p m ≡ p .height) ⊎ List·Memᴰ (erosionCount p m) (select (bare p m) numbers))
+      e = count-extreme (select (bare p m) numbers)
 
       under : (k : ℕ) → Bare p m k → Dec (p .height ≤ k) → erosionCount p m ≤ k
       under k z (yes h) = omega (arith, e .0)
       under k z (no h) =
-          e .1 k (select-in (bare p m) some (each-in (λ k. k) (p .height) 0 k (omega arith) (omega arith)) (eq-eqb (top k) 0 (bare-whole k z)))
+          e .1 k (select-in (bare p m) numbers (each-in (λ k. k) (p .height) 0 k (omega arith) (omega arith)) (eq-eqb (top k) 0 (bare-whole k z)))
 
-      bare-at : (erosionCount p m ≡ p .height) ⊎ List·Memᴰ (erosionCount p m) (select (bare p m) some) → Bare p m (erosionCount p m)
+      bare-at : (erosionCount p m ≡ p .height) ⊎ List·Memᴰ (erosionCount p m) (select (bare p m) numbers) → Bare p m (erosionCount p m)
       bare-at (inl h) = subst (Bare p m) (sym h) (erosion-top p m (p .height) (omega arith))
-      bare-at (inr i) = bare-sound (erosionCount p m) (eqb-true (top (erosionCount p m)) 0 (select-out (bare p m) some i .1))
+      bare-at (inr i) = bare-sound (erosionCount p m) (eqb-true (top (erosionCount p m)) 0 (select-out (bare p m) numbers i .1))
 
   -- and no other number is
   pub count-unique : (n : ℕ) → IsErosionCount p m n → n ≡ erosionCount p m

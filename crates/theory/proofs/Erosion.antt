@@ -15,6 +15,7 @@ use Rattle.geometry.specs.Lists.{Lowest}
 use Rattle.geometry.specs.Plane.{Cell, cell, gap, dist, Ball, ball, neighbours}
 use Rattle.geometry.specs.Plate.{On, at, tabulated}
 use Rattle.theory.specs.Erosion.{IsErosion, erosion, highestNear}
+use Rattle.theory.specs.Climbed.{Bare}
 use Rattle.theory.specs.Near.{lowestNear}
 use Rattle.theory.proofs.Lists.{min-choice, max-choice, fold-extreme, extreme-among, lowest-unique}
 use Rattle.theory.proofs.Distance.{gap-self, dist-self, dist-sym, dist-tri, dist-zero, near, step, window}
@@ -88,11 +89,11 @@ module _ (p : Head) (m : List ℕ) where
   at-erosion k c = at-tabulated-plane p (erosion p m k) (erosion-off k) c
 
   -- once 0 everywhere, 0 ever after
-  pub erosion-ended : (j k : ℕ) → j ≤ k → ((c : Cell) → erosion p m j c ≡ 0) → (c : Cell) → erosion p m k c ≡ 0
+  pub erosion-ended : (j k : ℕ) → j ≤ k → Bare p m j → Bare p m k
   erosion-ended j k h z c = omega (arith, erosion-falls j k h c, z c)
 
   -- no ball of that reach is on the plate
-  pub erosion-top : (limit : ℕ) → min (p .width) (p .height) ≤ 2 * limit → (c : Cell) → erosion p m limit c ≡ 0
+  pub erosion-top : (limit : ℕ) → min (p .width) (p .height) ≤ 2 * limit → Bare p m limit
   erosion-top limit s c = go (on-or-off p c)
     where
       low : (o : Cell) → at p m o ≡ 0 → dist (p .kind) c o ≤ limit → erosion p m limit c ≡ 0

@@ -19,6 +19,7 @@ use Rattle.geometry.specs.Plane.{Cell, cell, dist}
 use Rattle.geometry.specs.Plate.{On, area, at}
 use Rattle.geometry.specs.Plunges.{centre, Covers, BallWithin, Inside, OnPlate}
 use Rattle.theory.specs.Erosion.{erosion, highestNear, residue}
+use Rattle.theory.specs.Climbed.{Bare}
 use Rattle.theory.specs.Listing.{Fits, Maximal, listedAt, listing}
 use Rattle.theory.proofs.Lists.{gather-in, gather-few, gather-out, gather-split, gather-nil}
 use Rattle.theory.proofs.Distance.{dist-sym, dist-tri, near, step}
@@ -96,7 +97,7 @@ module _ (p : Head) (limit : ℕ) (m : List ℕ) where
   listed-fits q h = let l = listed-out h in erosion-fits p m q (omega (arith, l .over, l .whole)) (omega (arith, l .whole))
 
   -- past an erosion that is 0 everywhere nothing is listed
-  pub listing-stops : (j : ℕ) → j ≤ limit → ((c : Cell) → erosion p m j c ≡ 0) → listing p limit m ≡ listing p j m
+  pub listing-stops : (j : ℕ) → j ≤ limit → Bare p m j → listing p limit m ≡ listing p j m
   unfolding listing
   listing-stops j h z =
       let e : limit ≡ j + (limit - j) = omega arith in

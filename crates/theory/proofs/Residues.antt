@@ -9,6 +9,7 @@ use Rattle.geometry.specs.Lists.{gather, highest, sum}
 use Rattle.geometry.specs.Plane.{Cell}
 use Rattle.geometry.specs.Plate.{at, area}
 use Rattle.theory.specs.Erosion.{erosion, highestNear, residue, residues, largestResidue, residueSum, volume}
+use Rattle.theory.specs.Climbed.{Bare}
 use Rattle.theory.proofs.Lists.{gather-more}
 use Rattle.theory.proofs.Plate.{tabulated-at}
 use Rattle.theory.proofs.Erosion.{le-highestNear, highestNear-met, erosion-near, erosion-ended, erosion-top, erosion-zero}
@@ -27,7 +28,7 @@ module _ (p : Head) (m : List ℕ) where
   residue-fall k c = omega (arith, residue-suc k c, le-highestNear (p .kind) (erosion p m (suc k)) c (List·Memᴰ·head refl))
 
   -- after an empty erosion
-  pub residue-ended : (j k : ℕ) → j ≤ k → ((c : Cell) → erosion p m j c ≡ 0) → (c : Cell) → residue p m (suc k) c ≡ 0
+  pub residue-ended : (j k : ℕ) → j ≤ k → Bare p m j → (c : Cell) → residue p m (suc k) c ≡ 0
   residue-ended j k h z c = omega (arith, residue-fall k c, erosion-ended p m j k h z c)
 
   -- ---- scores
@@ -68,7 +69,7 @@ module _ (p : Head) (m : List ℕ) where
         rw e (omega (arith, t .0), omega (arith, t .1))
 
   -- the scores are the same for every limit from an empty erosion on
-  module _ (j limit : ℕ) (more : j ≤ limit) (empty : (c : Cell) → erosion p m j c ≡ 0) (c : Cell) where
+  module _ (j limit : ℕ) (more : j ≤ limit) (empty : Bare p m j) (c : Cell) where
     none : (k : ℕ) → 1 + j ≤ k → residue p m k c ≡ 0
     none zero h = absurd (omega arith)
     none (suc k) h = residue-ended j k (omega arith) empty c
