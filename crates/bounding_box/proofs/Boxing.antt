@@ -1,4 +1,4 @@
--- Laws of boxes: stretches without a number above 0, joined columns and rows, the box that they give, rows copied, cropped and spread out one
+-- Laws of boxes: spans, joined columns and rows, the box that they give, rows copied, cropped and spread out one
 -- after the other.
 use mathlib.Core.Path.{_≡_, refl, sym, ap, _∙_, subst}
 use mathlib.Core.List.{List}
@@ -14,48 +14,27 @@ use Rattle.geometry.specs.declared.Head.{Head}
 use Rattle.geometry.specs.Plate.{area}
 use Rattle.refusal.specs.Sides.{Sides}
 use Rattle.buffers.specs.Fill.{Filled}
+use Rattle.buffers.specs.Runs.{ZeroRun}
+use Rattle.buffers.proofs.Zeros.{zeros-none}
 use Rattle.buffers.proofs.Fill.{filled-none, filled-more, filled-as, row-under, row-over}
 use Rattle.bounding_box.specs.declared.Bounds.{Bounds}
 use Rattle.bounding_box.specs.declared.Span.{Span}
 use Rattle.bounding_box.specs.Boxes.{Within, BareOutside, CopiedRows, Copied, Copyable, CroppedRows, Cropped, Croppable, SpreadRows, Spread}
-use Rattle.bounding_box.specs.Boxes.{Joined, Topped, Bare, Spans}
+use Rattle.bounding_box.specs.Boxes.{Joined, Topped, Spans}
 
--- ---- stretches without a number above 0
+-- ---- spans of the places with a number above 0
 
 module _ (l : List ℕ) where
-  pub bare-none : (from : ℕ) → Bare l from from
-  bare-none from = record { none = λ i a b. absurd (omega arith) }
-
-  -- one place more at the end
-  pub bare-more : (from to : ℕ) → Bare l from to → getD l to 0 ≡ 0 → Bare l from (to + 1)
-  bare-more from to u e = record { none = λ i a b. go i a b (decLe to i) }
-    where
-      go : (i : ℕ) → from ≤ i → i < to + 1 → Dec (to ≤ i) → getD l i 0 ≡ 0
-      go i a b (yes d) = let k : i ≡ to = omega arith in rw k e
-      go i a b (no d) = u .none i a (omega arith)
-
-  -- one place more at the start
-  pub bare-before : (from to : ℕ) → 0 < from → Bare l from to → getD l (from - 1) 0 ≡ 0 → Bare l (from - 1) to
-  bare-before from to h u e = record { none = λ i a b. go i a b (decLe from i) }
-    where
-      go : (i : ℕ) → from - 1 ≤ i → i < to → Dec (from ≤ i) → getD l i 0 ≡ 0
-      go i a b (yes d) = u .none i d b
-      go i a b (no d) = let k : i ≡ from - 1 = omega arith in rw k e
-
-  -- the places of a smaller stretch
-  pub bare-in : (a b from to : ℕ) → a ≤ from → to ≤ b → Bare l a b → Bare l from to
-  bare-in a b from to h g u = record { none = λ i c d. u .none i (omega arith) (omega arith) }
-
   -- from the first place with a number above 0 up to the end of the last
-  pub spans-some : (n first end : ℕ) → end ≤ n → first < end → Bare l 0 first → Bare l end n → Spans n (record { first = first; number = end - first }) l
+  pub spans-some : (n first end : ℕ) → end ≤ n → first < end → ZeroRun l 0 first → ZeroRun l end n → Spans n (record { first = first; number = end - first }) l
   spans-some n first end a b u v =
       let k : end ≡ first + (end - first) = omega arith in
-      record { some = omega arith; within = omega arith; under = u; over = subst (λ (j : ℕ). Bare l j n) k v }
+      record { some = omega arith; within = omega arith; under = u; over = subst (λ (j : ℕ). ZeroRun l j n) k v }
 
   -- where there is no such place, any span will do
-  pub spans-none : (n first end : ℕ) → 1 ≤ n → end ≤ first → Bare l 0 first → Bare l end n → Spans n (record { first = 0; number = 1 }) l
+  pub spans-none : (n first end : ℕ) → 1 ≤ n → end ≤ first → ZeroRun l 0 first → ZeroRun l end n → Spans n (record { first = 0; number = 1 }) l
   spans-none n first end a b u v =
-      record { some = omega arith; within = omega arith; under = bare-none 0; over = record { none = λ i c d. go i d (decLe end i) } }
+      record { some = omega arith; within = omega arith; under = zeros-none l 0; over = record { none = λ i c d. go i d (decLe end i) } }
     where
       go : (i : ℕ) → i < n → Dec (end ≤ i) → getD l i 0 ≡ 0
       go i d (yes e) = v .none i e d

@@ -8,6 +8,7 @@ use Rattle.geometry.specs.Plate.{area}
 use Rattle.refusal.specs.Refusals.{largestSide}
 use Rattle.refusal.specs.Sides.{Sides}
 use Rattle.buffers.specs.Fill.{Filled}
+use Rattle.buffers.specs.Runs.{ZeroRun}
 use Rattle.bounding_box.specs.declared.Bounds.{Bounds}
 use Rattle.bounding_box.specs.declared.Span.{Span}
 
@@ -99,19 +100,15 @@ pub record Topped (w height : ℕ) (m columns rows : List ℕ) : Type 0 where
 
 -- ---- the places of an array with a number above 0
 
--- there is none from one place up to another
-pub record Bare (l : List ℕ) (from to : ℕ) : Type 0 where
-  pub none : (i : ℕ) → from ≤ i → i < to → getD l i 0 ≡ 0
-
 -- r is the first of n places with a number above 0; n if there is none
 pub record FirstSet (n : ℕ) (l : List ℕ) (r : ℕ) : Type 0 where
   pub within : r ≤ n
-  pub under : Bare l 0 r
+  pub under : ZeroRun l 0 r
   pub set : r < n → 1 ≤ getD l r 0
 
 -- a span of the first n places, with some of them, holds them all
 pub record Spans (n : ℕ) (s : Span) (l : List ℕ) : Type 0 where
   pub some : 1 ≤ s .number
   pub within : s .first + s .number ≤ n
-  pub under : Bare l 0 (s .first)
-  pub over : Bare l (s .first + s .number) n
+  pub under : ZeroRun l 0 (s .first)
+  pub over : ZeroRun l (s .first + s .number) n

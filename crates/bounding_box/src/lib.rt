@@ -8,8 +8,9 @@ ghost use Rattle.geometry.specs.Plate.{area};
 ghost use Rattle.refusal.specs.Refusals.{largestSide};
 ghost use Rattle.refusal.specs.Sides.{Sides};
 ghost use Rattle.buffers.specs.Fill.{Filled};
+ghost use Rattle.buffers.specs.Runs.{ZeroRun};
 ghost use Rattle.bounding_box.specs.Boxes.{Within, BareOutside, Copied, Copyable, Cropped, Croppable, Spread};
-ghost use Rattle.bounding_box.specs.Boxes.{Joinable, Joined, Plates, Topped, Bare, FirstSet, Spans};
+ghost use Rattle.bounding_box.specs.Boxes.{Joinable, Joined, Plates, Topped, FirstSet, Spans};
 
 // A number for each column or for each row is held in an array of this length.
 const SIDE: usize = refusal::LARGEST_SIDE as usize;
@@ -78,7 +79,7 @@ pub fn first_set(numbers: &[u8], n: usize) -> usize
 // One past the last of n places with a number above 0; 0 if there is none.
 fn end_set(numbers: &[u8; SIDE], n: usize) -> usize
     requires { ⌜ n ≤ largestSide ⌝ }
-    ensures { λ r. ⌜ (r ≤ n) × Bare (now (numbers .entry)) r n ⌝ }
+    ensures { λ r. ⌜ (r ≤ n) × ZeroRun (now (numbers .entry)) r n ⌝ }
 {
     let mut end = n;
     while 0 < end {

@@ -20,8 +20,8 @@ use Rattle.theory.proofs.Erosion.{le-highestNear, highestNear-met}
 use Rattle.theory.proofs.Levels.{clearance-off, axis-kept, axis-above}
 use Rattle.theory.proofs.Plate.{on-or-off, at-cell}
 use Rattle.buffers.specs.Fill.{Mapped}
-use Rattle.window_filter.specs.declared.Leaf.the-variants.{Axis}
-use Rattle.window_filter.specs.Filter.{leaf}
+use Rattle.row_filter.specs.declared.Leaf.the-variants.{Axis}
+use Rattle.row_filter.specs.Filter.{leaf}
 
 module _ (p : Head) (m : List ℕ) (t : ℕ) (level : 1 ≤ t) where
   -- "keeps the clearance where no neighbour's is larger, and is 0 elsewhere", by the highest among a cell and its neighbours

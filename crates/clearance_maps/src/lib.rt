@@ -1,7 +1,7 @@
 // Maps of one level, as calls: clearance, medial axis, reconstruction. Each tries its arguments first and writes only if it accepts them.
 use refusal::Verdict;
 use row_arrays::Seeds;
-use window_filter::Leaf;
+use row_filter::Leaf;
 ghost use Rattle.clearance_maps.specs.Calls.{ClearanceMap, AxisMap, Reconstruction};
 
 // The clearance of every cell at a level.

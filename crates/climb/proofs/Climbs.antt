@@ -22,10 +22,11 @@ use Rattle.theory.proofs.Erosion.{erosion-off, erosion-top}
 use Rattle.theory.proofs.Climbed.{count-first, count-bound}
 use Rattle.theory.proofs.Lists.{gather-same}
 use Rattle.refusal.specs.Refusals.{largestSide, largestErosion}
+use Rattle.erosion_series.specs.Pairs.{Last}
 use Rattle.erosion_series.proofs.Pairs.{kept-more}
 use Rattle.residue_series.specs.declared.Run.{Run}
 use Rattle.residue_series.specs.Plunges.{listedReach, soFar, plungeAt, onMark, marksTo}
-use Rattle.residue_series.specs.Stands.{Due, Last, Midway, Level, listedTo, left, leftAt, runListed, Taken, TakenOf}
+use Rattle.residue_series.specs.Stands.{Due, Midway, Level, listedTo, left, leftAt, runListed, Taken, TakenOf}
 use Rattle.residue_series.proofs.Plunges.{erosion-north, row-above, so-far-next}
 use Rattle.residue_series.proofs.Stands.{standing-rest}
 use Rattle.climb.specs.declared.Region.{Region}

@@ -17,7 +17,7 @@ use Rattle.refusal.specs.declared.Refusal.{Refusal}
 use Rattle.refusal.specs.declared.Verdict.{Verdict}
 use Rattle.refusal.specs.declared.Verdict.the-variants.{Accepted, Refused}
 use Rattle.refusal.specs.Refusals.{written}
-use Rattle.reading.specs.Reading.{IsReadable, headTrials, headIn}
+use Rattle.reading.specs.Reading.{headTrials, headIn}
 use Rattle.reading.proofs.Answers.{file-read}
 use Rattle.refusal.specs.Refusals.{firstMet}
 use Rattle.reading.proofs.Readable.{readable-head}

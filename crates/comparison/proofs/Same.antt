@@ -3,7 +3,7 @@ use mathlib.Core.Path.{_≡_, refl, sym, ap, ap₂, _∙_, subst}
 use mathlib.Core.Logic.{_↔_}
 use mathlib.Core.Bool.{Bool, true, false, cond}
 use mathlib.Core.List.{List, [], _∷_}
-use Prim.Native.Nat.{ℕ, suc, _≤_, _<_}
+use Prim.Native.Nat.{ℕ, suc, _≤_}
 use native.Mathlib.Nat.{le-antisymm}
 use native.Mathlib.Omega.{arith}
 use borrow.Author.Tests.{eq-eqb, eqb-true, le-ltb, ltb-false}
@@ -23,7 +23,6 @@ use Rattle.jobs.specs.Calls.{relief, tidied}
 use Rattle.job_check.proofs.Alike.{alike-equal, common-self}
 use Rattle.job_theorems.specs.Canonical.{Tidying, SamePlate, SameRelief}
 use Rattle.job_theorems.proofs.Canonical.{canonical-form, tidiable, file-is}
-use Rattle.comparison.specs.declared.Comparison.{Comparison}
 use Rattle.comparison.specs.declared.Comparison.the-variants.{Same, OtherKind, OtherSize, OtherCell}
 use Rattle.comparison.specs.Comparing.{differenceAt, compared}
 use Rattle.comparison.proofs.Maps.{same-area}

@@ -7,7 +7,6 @@ ghost use Prim.Native.Nat.{_≤_};
 ghost use lib.ListN.{length};
 ghost use Rattle.geometry.specs.Plate.{area};
 ghost use Rattle.refusal.specs.Sides.{Sides};
-ghost use Rattle.reading.specs.Reading.{headIn};
 ghost use Rattle.comparison.specs.Comparing.{CompareCall};
 ghost use Rattle.comparison.specs.Drawings.{mapsCompared, platesCompared, Holds, SecondCompared};
 

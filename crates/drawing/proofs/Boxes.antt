@@ -28,9 +28,9 @@ use Rattle.buffers.specs.Fill.{Filled, Mapped}
 use Rattle.buffers.specs.Margin.{Margin}
 use Rattle.bounding_box.specs.declared.Bounds.{Bounds}
 use Rattle.bounding_box.specs.Boxes.{Spread}
-use Rattle.window_filter.specs.declared.Leaf.the-variants.{Highest}
-use Rattle.window_filter.specs.Filter.{leaf, Filterable}
-use Rattle.window_filter.proofs.InPlace.{highest-filtered}
+use Rattle.row_filter.specs.declared.Leaf.the-variants.{Highest}
+use Rattle.row_filter.specs.Filter.{leaf, Filterable}
+use Rattle.row_filter.proofs.InPlace.{highest-filtered}
 use Rattle.reading.specs.Reading.{nthPlunge, plungesUpTo}
 use Rattle.drawing_box.specs.declared.Drawing.{Drawing}
 use Rattle.drawing_box.specs.Boxed.{Held, Placeable, partOf, boxed, plungeIn, plungesOn}

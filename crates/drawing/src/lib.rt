@@ -4,7 +4,7 @@
 use drawing_box::Drawing;
 use geometry::Head;
 use geometry::Reach;
-use window_filter::Leaf;
+use row_filter::Leaf;
 ghost use mathlib.Core.Path.{_≡_};
 ghost use Prim.Native.Nat.{_+_, _≤_, _<_};
 ghost use mathlib.Core.Bool.{cond};

@@ -15,7 +15,6 @@ use Rattle.geometry.specs.declared.Head.{Head}
 use Rattle.geometry.specs.Plane.{Cell, cell, gap, dist}
 use Rattle.geometry.specs.Plate.{On, area, at}
 use Rattle.theory.specs.Erosion.{erosion}
-use Rattle.theory.specs.Climbed.{Bare}
 use Rattle.theory.specs.Near.{lowestNear}
 use Rattle.theory.proofs.Distance.{gap-self}
 use Rattle.theory.proofs.Plate.{on-or-off, at-cell}
@@ -23,7 +22,7 @@ use Rattle.theory.proofs.Erosion.{erosion-is, erosion-zero, erosion-step, erosi
 use Rattle.buffers.specs.Fill.{Filled, PlateOnly}
 use Rattle.erosion_step.specs.Steps.{stepNumbers, Stepped}
 use Rattle.buffers.specs.Margin.{Margin}
-use Rattle.erosion_series.specs.Pairs.{HoldsErosion, Turn, Pair, PairToStep, PairStep, ErodedTo}
+use Rattle.erosion_series.specs.Pairs.{HoldsErosion, Turn, Pair, PairToStep, PairStep, ErodedTo, Last}
 
 -- ---- margins
 
@@ -220,7 +219,7 @@ module _ (p : Head) (m : List ℕ) (k : ℕ) (a b a′ b′ : List ℕ) (e : Ero
 
 -- from the copy on, the whole series
 pub eroded-to : (p : Head) (m : List ℕ) (number k : ℕ) (old a b a′ b′ : List ℕ) → Filled (λ n. getD m n 0) 0 (area p) old a → Eroding p m k a b a′ b′
-    → k ≤ number → (1 ≤ number → 1 ≤ k) → (k ≡ number) ⊎ Bare p m k → ErodedTo p m number old b a′ b′ k
+    → k ≤ number → (1 ≤ number → 1 ≤ k) → Last p m number k → ErodedTo p m number old b a′ b′ k
 eroded-to p m number k old a b a′ b′ f e h l g =
     record {
       pair = e .pair;

@@ -21,14 +21,14 @@ use Rattle.residue_scores.specs.declared.Score.the-variants.{Largest, Sum}
 use Rattle.buffers.specs.Margin.{Margin}
 use Rattle.erosion_step.specs.Steps.{stepNumbers}
 use Rattle.residue_scores.specs.Residues.{joinedScore}
-use Rattle.erosion_series.specs.Pairs.{HoldsErosion, Turn, Pair, PairToScore, PairScore, ScoreUpTo}
+use Rattle.erosion_series.specs.Pairs.{HoldsErosion, Turn, Pair, PairToScore, PairScore, ScoreUpTo, Last}
 use Rattle.residue_scores.specs.Scores.{scoreOf}
 use Rattle.erosion_series.proofs.Pairs.{mod-cases, turn-margins, pair-long}
 
 -- ---- erosions
 
 -- where a series ended before its number, the erosion is 0 there and at the number
-pub eroded-to-same : (p : Head) (m : List ℕ) (number k : ℕ) → k ≤ number → (k ≡ number) ⊎ Bare p m k → (c : Cell)
+pub eroded-to-same : (p : Head) (m : List ℕ) (number k : ℕ) → k ≤ number → Last p m number k → (c : Cell)
     → erosion p m k c ≡ erosion p m number c
 eroded-to-same p m number k h (inl e) c = ap (λ (j : ℕ). erosion p m j c) e
 eroded-to-same p m number k h (inr z) c = z c ∙ sym (erosion-ended p m k number h z c)
@@ -145,17 +145,17 @@ score-stops p m Largest k limit h z c = sym (largestResidue-stops p m k limit h 
 score-stops p m Sum k limit h z c = sym (residueSum-stops p m k limit h z c)
 
 -- at the end, or after an empty erosion, the score is whole
-pub score-done : (p : Head) (m : List ℕ) (s : Score) (k limit : ℕ) (old zeroed new : List ℕ) → k ≤ limit → (k ≡ limit)
-    ⊎ Bare p m k → Filled (λ n. 0) 0 (area p) old zeroed → ScoreUpTo p s m k zeroed new → ScoreUpTo p s m limit old new
+pub score-done : (p : Head) (m : List ℕ) (s : Score) (k limit : ℕ) (old zeroed new : List ℕ) → k ≤ limit → Last p m limit k
+    → Filled (λ n. 0) 0 (area p) old zeroed → ScoreUpTo p s m k zeroed new → ScoreUpTo p s m limit old new
 score-done p m s k limit old zeroed new h g f e =
     record { same = e .same ∙ f .same; holds = λ x y a b. e .holds x y a b ∙ same g (cell x y); surplus = λ n a. e .surplus n a ∙ f .over n a }
   where
-    same : (k ≡ limit) ⊎ Bare p m k → (c : Cell) → scoreOf s p k m c ≡ scoreOf s p limit m c
+    same : Last p m limit k → (c : Cell) → scoreOf s p k m c ≡ scoreOf s p limit m c
     same (inl i) c = ap (λ (j : ℕ). scoreOf s p j m c) i
     same (inr z) c = score-stops p m s k limit h z c
 
 -- a series that ended before its number leaves no residue there
-pub residue-short : (p : Head) (m : List ℕ) (number k : ℕ) (old new : List ℕ) → 1 ≤ number → k ≤ number → (k ≡ number → ⊥) → (k ≡ number)
-    ⊎ Bare p m k → Filled (λ n. 0) 0 (area p) old new → Mapped p (residue p m number) old new
+pub residue-short : (p : Head) (m : List ℕ) (number k : ℕ) (old new : List ℕ) → 1 ≤ number → k ≤ number → (k ≡ number → ⊥)
+    → Last p m number k → Filled (λ n. 0) 0 (area p) old new → Mapped p (residue p m number) old new
 residue-short p m number k old new a h d (inl e) f = absurd (d e)
 residue-short p m number k old new a h d (inr z) f = residue-none p m number k old new a (omega arith) z f

@@ -72,6 +72,10 @@ pub record PairScore (p : Head) (s : Score) (k : ℕ) (a b old new : List ℕ) :
   pub even : k % 2 ≡ 0 → Scored p s b a 0 (p .height) old new
   pub odd : k % 2 ≡ 1 → Scored p s a b 0 (p .height) old new
 
+-- erosion k is a series' last: that of its limit, or a bare one
+abbrev pub Last : Head → List ℕ → ℕ → ℕ → Type 0
+Last p m limit k = (k ≡ limit) ⊎ Bare p m k
+
 -- a series to a number ends there, or where an erosion is 0 everywhere
 pub record ErodedTo (p : Head) (m : List ℕ) (number : ℕ) (a b a′ b′ : List ℕ) (k : ℕ) : Type 0 where
   pub pair : Pair p m k a′ b′
@@ -79,7 +83,7 @@ pub record ErodedTo (p : Head) (m : List ℕ) (number : ℕ) (a b a′ b′ : Li
   pub second : PlateOnly p b b′
   pub upto : k ≤ number
   pub some : 1 ≤ number → 1 ≤ k
-  pub ended : (k ≡ number) ⊎ Bare p m k
+  pub ended : Last p m number k
 
 -- a map of a series: what the output holds, and two buffers of which only the plate's bytes were used
 pub record MapFilled (p : Head) (f : Cell → ℕ) (out out′ a a′ b b′ : List ℕ) : Type 0 where

@@ -4,7 +4,7 @@ use geometry::Head;
 use geometry::Plunge;
 use geometry::Size;
 ghost use mathlib.Core.Path.{_≡_};
-ghost use Prim.Native.Nat.{_+_, _≤_, _<_};
+ghost use Prim.Native.Nat.{_+_, _≤_};
 ghost use lib.ListN.{length};
 ghost use Rattle.geometry.specs.declared.Size.the-variants.{Small, Large};
 ghost use Rattle.geometry.specs.Sizes.{sizeOf};

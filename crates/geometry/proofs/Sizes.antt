@@ -6,7 +6,6 @@ use native.Mathlib.Omega.{arith}
 use borrow.Author.Tests.{le-leb, lt-leb, leb-true}
 use lib.Dec.{leb}
 use Rattle.geometry.specs.declared.Head.{Head}
-use Rattle.geometry.specs.declared.Size.{Size}
 use Rattle.geometry.specs.declared.Size.the-variants.{Small, Large}
 use Rattle.geometry.specs.Sizes.{smallSide, sizeOf}
 

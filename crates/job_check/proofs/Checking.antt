@@ -3,7 +3,7 @@ use mathlib.Core.Path.{_≡_, refl, sym, ap, ap₂, _∙_, subst}
 use mathlib.Core.Logic.{_⊎_, inl, inr}
 use mathlib.Core.Bool.{Bool, true, false}
 use mathlib.Core.List.{List, [], _∷_, _++_, append-assoc}
-use Prim.Native.Nat.{ℕ, suc, _+_, _*_, _≤_, _<_}
+use Prim.Native.Nat.{ℕ, suc, _+_, _<_}
 use native.Mathlib.Omega.{arith}
 use borrow.Author.Tests.{eq-eqb, eqb-true}
 use lib.Dec.{eqb}
@@ -13,10 +13,9 @@ use Rattle.geometry.specs.declared.Plunge.{Plunge}
 use Rattle.geometry.specs.declared.Size.{Size}
 use Rattle.geometry.specs.declared.Size.the-variants.{Small, Large}
 use Rattle.geometry.specs.Sizes.{sizeOf}
-use Rattle.geometry.specs.Plate.{area}
 use Rattle.theory.specs.Listing.{listing}
 use Rattle.refusal.specs.declared.Verdict.the-variants.{Accepted, Refused}
-use Rattle.refusal.specs.Refusals.{largestSide, largestErosion}
+use Rattle.refusal.specs.Refusals.{largestErosion}
 use Rattle.fields.specs.Fields.{four, headField, plungeField, plungeFields, endTag, encoded, place}
 use Rattle.fields.proofs.Encoding.{field-length, head-length, bytes-none, fields-place, place-same, plunge-injective, encoded-parts, encoded-injective}
 use Rattle.reading.proofs.Readable.{readable-encoded, readable-sound, length-plungesIn, encoded-fields}

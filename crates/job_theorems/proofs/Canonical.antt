@@ -24,7 +24,7 @@ use Rattle.theory.proofs.Canonical.{canonical-iff, canonical-draws, canonical-t
 use Rattle.refusal.specs.declared.Verdict.{Verdict}
 use Rattle.refusal.specs.declared.Verdict.the-variants.{Accepted}
 use Rattle.refusal.specs.Refusals.{trial, firstMet, largestErosion, written, Worked}
-use Rattle.fields.specs.Fields.{encoded, place}
+use Rattle.fields.specs.Fields.{encoded}
 use Rattle.fields.proofs.Encoding.{encoded-injective}
 use Rattle.reading.proofs.Answers.{after-file}
 use Rattle.reading.proofs.Readable.{Sound, readable-sound, Writable, encoded-readable, encoded-head, encoded-plunges}

@@ -6,7 +6,6 @@ use Prim.Native.Nat.{ℕ, _*_, _≤_, min}
 use native.Mathlib.Omega.{arith}
 use lib.ListN.{length, take, drop}
 use lib.Seq.{take-at, drop-at, length-take-le}
-use Rattle.geometry.specs.declared.Head.{Head}
 use Rattle.geometry.specs.Plate.{area}
 use Rattle.theory.specs.Listing.{drawing}
 use Rattle.theory.proofs.Drawing.{drawing-listing}

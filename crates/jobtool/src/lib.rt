@@ -10,7 +10,6 @@ use motion_floats::Scale;
 use tool_answers::Outcome;
 use tool_words::Command;
 ghost use Prim.Native.Nat.{_≤_};
-ghost use lib.ListN.{length};
 
 // What is asked: a command, its scale, the kind of a scan that is made, whether the rungs climbed are told, which plain word is the first
 // input, and whether what is told is headed by its input's name.

@@ -1,7 +1,7 @@
 -- How long the lines of motions are; a number that was put where it has room.
 use mathlib.Core.Path.{_≡_, refl, sym, ap, _∙_, subst}
 use mathlib.Core.List.{List, [], _∷_, _++_}
-use Prim.Native.Nat.{ℕ, suc, _+_, _≤_, _<_}
+use Prim.Native.Nat.{ℕ, _+_, _≤_}
 use native.Mathlib.Omega.{arith}
 use lib.ListN.{length, set, length-append, length-set}
 use lib.Seq.{sets-eq}
@@ -14,7 +14,7 @@ use Rattle.motion_floats.specs.declared.Motion.{Motion}
 use Rattle.motion_floats.specs.declared.Motion.the-variants.{Change, Stay, Travel, Sink}
 use Rattle.motion_floats.specs.declared.Motions.{Motions}
 use Rattle.motion.specs.declared.MotionAnswer.{MotionAnswer}
-use Rattle.motion.specs.declared.MotionAnswer.the-variants.{Moves, NoMoves}
+use Rattle.motion.specs.declared.MotionAnswer.the-variants.{Moves}
 use Rattle.motion.specs.Motions.{motionsIn}
 use Rattle.decimal_text.specs.Text.{numberText, Put}
 use Rattle.decimal_text.proofs.Floats.{numberText-short}

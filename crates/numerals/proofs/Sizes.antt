@@ -2,14 +2,14 @@
 use mathlib.Core.Path.{_≡_, refl, sym, ap, _∙_, subst}
 use mathlib.Core.Bool.{Bool, true, false, cond}
 use mathlib.Core.List.{List, [], _∷_, _++_}
-use Prim.Native.Nat.{ℕ, zero, suc, _+_, _*_, _/_, _%_, _^_, _≤_, _<_}
-use native.Mathlib.Nat.{zero-add, pow-suc, mod-lt, div-lt-iff-lt-mul, le-div-iff-mul-le, le-of-suc-le-suc, lt-of-not-le, le-trans}
+use Prim.Native.Nat.{ℕ, zero, suc, _+_, _/_, _%_, _^_, _≤_, _<_}
+use native.Mathlib.Nat.{zero-add, pow-suc, mod-lt, div-lt-iff-lt-mul, le-div-iff-mul-le, le-of-suc-le-suc, lt-of-not-le}
 use native.Mathlib.Numerals.{add-one}
 use native.Mathlib.Omega.{arith}
 use borrow.Author.Tests.{lt-ltb, le-ltb, ltb-true, ltb-false}
 use lib.Dec.{ltb, lit<}
 use lib.ListN.{length, length-append}
-use Rattle.numerals.specs.Numerals.{digitByte, digitText, numeralWithin, numeral}
+use Rattle.numerals.specs.Numerals.{digitText, numeralWithin, numeral}
 use Rattle.numerals.specs.Sizes.{IsSize}
 use Rattle.numerals.proofs.Digits.{digits-length}
 

@@ -8,13 +8,13 @@ use native.Mathlib.Numerals.{add-one}
 use native.Mathlib.Nat.{le-antisymm}
 use native.Mathlib.Decide.{decLe}
 use lib.ListN.{length, take, drop, getD, length-append, length-take}
-use lib.Seq.{length-take-le, take-all, take-append-le, take-append-add, take-append-seam, take-suc, take-length}
+use lib.Seq.{take-all, take-append-le, take-append-add, take-append-seam, take-suc, take-length}
 use Rattle.io.specs.Counts.{Counts}
 use Rattle.fields.specs.Writing.{spliced}
 use Rattle.fields.proofs.Splice.{splice-nil, splice-start, splice-splice, splice-length}
 use Rattle.numerals.specs.Numerals.{Puts}
 use Rattle.phrases.specs.Phrases.{Appends, isPlain, shownByte, shownName}
-use Rattle.phrases.proofs.Puts.{counts, puts-length}
+use Rattle.phrases.proofs.Puts.{counts}
 
 pub appends-length : (old : List ℕ) (at : ℕ) (x new : List ℕ) (r : ℕ) → at ≤ length old → Appends old at x new r → length new ≡ length old
 appends-length old at x new r h p =

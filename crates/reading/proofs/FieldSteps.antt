@@ -24,7 +24,7 @@ use Rattle.reading.specs.Reading.{headIn, isEnd, isPlunge, plungeAt, hea
 use Rattle.reading_fields.specs.Openings.{numberAt, endTrials}
 use Rattle.reading.specs.Steps.{stepOf, stepAt}
 use Rattle.reading.proofs.Steps.{andThen, first-append, head-right, field-right, right-plunge, right-end, contained-plunge, contained-end}
-use Rattle.fields.specs.Fields.{headBytes, plungeBytes, endBytes, place, fileLength}
+use Rattle.fields.specs.Fields.{headBytes, plungeBytes, place, fileLength}
 use Rattle.fields.proofs.Encoding.{place-next, place-few, length-total}
 
 -- ---- one field, and those after it

@@ -8,7 +8,6 @@ use native.Mathlib.Nat.{mul-le-mul}
 use borrow.Author.Tests.{ltb-true, ltb-false, lt-ltb, le-ltb, leb-true, leb-false, le-leb, eq-eqb, ne-eqb, not-false}
 use lib.Dec.{leb, ltb, eqb}
 use Rattle.geometry.specs.declared.Kind.{Kind}
-use Rattle.geometry.specs.declared.Head.{Head}
 use Rattle.geometry.specs.declared.MaybeKind.{MaybeKind}
 use Rattle.geometry.specs.declared.MaybeKind.the-variants.{OfKind, NoKind}
 use Rattle.geometry.specs.Lists.{any}

@@ -24,9 +24,10 @@ use Rattle.theory.proofs.Erosion.{erosion-step, erosion-off}
 use Rattle.buffers.specs.Fill.{PlateOnly}
 use Rattle.buffers.specs.Margin.{Margin}
 use Rattle.erosion_series.proofs.Pairs.{mod-cases, held-margin, kept-none}
-use Rattle.residue_marks.specs.declared.Places.{Places}
-use Rattle.residue_marks.specs.declared.Swept.{Swept}
-use Rattle.residue_marks.specs.Marks.{markPlaces, placeCell, lowNear, highNear, marksOf, SweepBuffers, Sweep}
+use Rattle.residue_sweep.specs.declared.Places.{Places}
+use Rattle.residue_sweep.specs.declared.Swept.{Swept}
+use Rattle.residue_marks.specs.Marks.{markPlaces}
+use Rattle.residue_sweep.specs.Sweeps.{placeCell, lowNear, highNear, marksOf, SweepBuffers, Sweep}
 use Rattle.residue_series.specs.Plunges.{placeListed, plungeAt, onMark, marksTo}
 use Rattle.residue_series.specs.Stands.{Midway, PairMidway, PairToSweep, PairSweep}
 use Rattle.residue_series.proofs.Gather.{gather-from}

@@ -28,7 +28,7 @@ use Rattle.theory.proofs.Plate.{on-or-off}
 use Rattle.theory.proofs.Erosion.{erosion-is, erosion-off}
 use Rattle.theory.proofs.Listing.{listing-stops}
 use Rattle.residue_marks.specs.Marks.{markOf, counted, tally}
-use Rattle.residue_series.specs.Stands.{Last}
+use Rattle.erosion_series.specs.Pairs.{Last}
 use Rattle.residue_series.specs.Plunges.{listedReach, placeListed, soFar, onMark, marksTo}
 use Rattle.residue_series.proofs.Gather.{gather-on, gather-turn, gather-none, gather-stops, gather-flat}
 

@@ -21,13 +21,13 @@ use Rattle.theory.proofs.Plate.{on-or-off, at-cell}
 use Rattle.theory.proofs.Erosion.{erosion-zero, erosion-off}
 use Rattle.refusal.specs.Refusals.{largestSide, largestErosion}
 use Rattle.erosion_step.specs.Steps.{Stepped}
-use Rattle.erosion_series.specs.Pairs.{HoldsErosion}
+use Rattle.erosion_series.specs.Pairs.{HoldsErosion, Last}
 use Rattle.erosion_series.proofs.Pairs.{held-next}
-use Rattle.residue_marks.specs.declared.Swept.{Swept}
+use Rattle.residue_sweep.specs.declared.Swept.{Swept}
 use Rattle.residue_marks.specs.Marks.{markPlaces}
 use Rattle.residue_series.specs.declared.Stand.{Stand}
 use Rattle.residue_series.specs.Plunges.{listedReach, placeListed, soFar}
-use Rattle.residue_series.specs.Stands.{Due, Last, Tops, Midway, PairMidway, Level, Standing, listedTo, PairSweep}
+use Rattle.residue_series.specs.Stands.{Due, Tops, Midway, PairMidway, Level, Standing, listedTo, PairSweep}
 use Rattle.residue_series.specs.Stands.{LastResidue, Advanced, Startable, Started, RunEnd, Taken, TakenOf}
 use Rattle.residue_series.proofs.Gather.{gather-parts, gather-turn}
 use Rattle.residue_series.proofs.Plunges.{reach-places, erosion-gone, so-far-more, so-far-level, so-far-next, reaches-end}

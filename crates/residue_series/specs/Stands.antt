@@ -1,6 +1,5 @@
 -- Serves proofs: where a series of residues stands, what a run asks of its two buffers, and what it leaves in them.
 use mathlib.Core.Path.{_≡_}
-use mathlib.Core.Logic.{_⊎_}
 use mathlib.Core.Bool.{Bool, true, false, cond}
 use mathlib.Core.List.{List, [], _++_}
 use Prim.Native.Nat.{ℕ, _+_, _-_, _*_, _%_, _≤_, _<_}
@@ -17,10 +16,11 @@ use Rattle.refusal.specs.Refusals.{largestErosion}
 use Rattle.refusal.specs.Sides.{Sides}
 use Rattle.buffers.specs.Fill.{PlateOnly}
 use Rattle.buffers.specs.Margin.{Margin}
-use Rattle.erosion_series.specs.Pairs.{HoldsErosion}
-use Rattle.residue_marks.specs.declared.Places.{Places}
-use Rattle.residue_marks.specs.declared.Swept.{Swept}
-use Rattle.residue_marks.specs.Marks.{markPlaces, lowNear, highNear, SweepBuffers, Sweep}
+use Rattle.erosion_series.specs.Pairs.{HoldsErosion, Last}
+use Rattle.residue_sweep.specs.declared.Places.{Places}
+use Rattle.residue_sweep.specs.declared.Swept.{Swept}
+use Rattle.residue_marks.specs.Marks.{markPlaces}
+use Rattle.residue_sweep.specs.Sweeps.{lowNear, highNear, SweepBuffers, Sweep}
 use Rattle.residue_series.specs.declared.Stand.{Stand}
 use Rattle.residue_series.specs.declared.Run.{Run}
 use Rattle.residue_series.specs.Plunges.{placeListed, soFar, plungeAt, marksTo}
@@ -28,10 +28,6 @@ use Rattle.residue_series.specs.Plunges.{placeListed, soFar, plungeAt, m
 -- residue k is due: rung k - 1 is not bare. A climb that takes no others ends "once a rung has no depth above 0" (document 02, N3)
 abbrev pub Due : Head → List ℕ → ℕ → Type 0
 Due p m k = Bare p m (k - 1) → ⊥
-
--- residue k is the last: no later one is taken, or erosion k is bare
-abbrev pub Last : Head → List ℕ → ℕ → ℕ → Type 0
-Last p m limit k = (k ≡ limit) ⊎ Bare p m k
 
 -- r is no lower than any of the first n numbers of a map, and 0 where all of them are
 pub record Tops (n : ℕ) (m : List ℕ) (r : ℕ) : Type 0 where

@@ -1,8 +1,8 @@
 // The residues of a relief one after the other, in runs of places: a run is marked where its residue is above 0, while the erosion after next
 // is written over the erosion before, in two buffers.
 use geometry::Head;
-use residue_marks::Places;
-use residue_marks::Swept;
+use residue_sweep::Places;
+use residue_sweep::Swept;
 ghost use mathlib.Core.List.{List};
 ghost use Prim.Native.Nat.{ℕ, _≤_};
 ghost use lib.ListN.{length};
@@ -85,7 +85,7 @@ fn run_end(head: Head, at: Stand) -> usize
     }
     numbers::smaller(
         end,
-        numbers::smaller(place + residue_marks::RUN, cells - width - 1),
+        numbers::smaller(place + residue_sweep::RUN, cells - width - 1),
     )
 }
 
@@ -103,9 +103,9 @@ fn sweep_pair(
         (now (marks .entry)) (now (marks .exit)) r ⌝ }
 {
     if number % 2 == 0 {
-        return residue_marks::sweep_places(head, places, b, a, marks);
+        return residue_sweep::sweep_places(head, places, b, a, marks);
     }
-    residue_marks::sweep_places(head, places, a, b, marks)
+    residue_sweep::sweep_places(head, places, a, b, marks)
 }
 
 // Whether no residue after this one is taken or can mark a place: it is the last, or its erosion is bare ("the climb … shall end there").

@@ -14,7 +14,6 @@ use Rattle.geometry.specs.declared.Head.{Head}
 use Rattle.geometry.specs.declared.Size.{Size}
 use Rattle.geometry.specs.declared.Size.the-variants.{Small, Large}
 use Rattle.geometry.specs.Sizes.{sizeOf}
-use Rattle.geometry.specs.declared.Plunge.{Plunge}
 use Rattle.theory.proofs.Plunges.{fitsPlate-iff}
 use Rattle.theory.proofs.Listing.{listed-fits}
 use Rattle.refusal.specs.declared.Refusal.{Refusal}
@@ -23,10 +22,9 @@ use Rattle.refusal.specs.declared.Verdict.the-variants.{Accepted, Refused}
 use Rattle.refusal.specs.Refusals.{trial, firstMet, mapTrials, short, badKind, badSides, headOf, largestErosion, written}
 use Rattle.refusal.specs.Sides.{Sides}
 use Rattle.refusal.proofs.Refusals.{Sound, sound, map-sound, gives-none}
-use Rattle.fields.specs.Fields.{encoded, fileLength, headBytes, plungeBytes, place}
+use Rattle.fields.specs.Fields.{encoded, headBytes, plungeBytes, place}
 use Rattle.fields.proofs.Encoding.{encoded-length}
 use Rattle.numerals.specs.Numerals.{Puts}
-use Rattle.reading.specs.declared.Job.{Job}
 use Rattle.reading.specs.Reading.{headIn, plungesIn}
 use Rattle.reading.specs.Steps.{JobOf}
 use Rattle.reading.proofs.Steps.{first-append, both-accepted}

@@ -2,7 +2,7 @@
 use mathlib.Core.Path.{_≡_, refl, sym, ap, _∙_}
 use mathlib.Core.Bool.{Bool, true, false, cond}
 use mathlib.Core.List.{List, [], _∷_}
-use Prim.Native.Nat.{ℕ, zero, suc, _+_, _*_, _≤_, _<_, min}
+use Prim.Native.Nat.{ℕ, zero, suc, _+_, _*_, _≤_, _<_}
 use native.Mathlib.Nat.{zero-add}
 use native.Mathlib.Omega.{arith}
 use borrow.Author.Tests.{lt-ltb, le-ltb, ltb-true, ltb-false}
@@ -11,7 +11,6 @@ use lib.ListN.{length, take, drop, length-take}
 use lib.Seq.{getD-take, take-take, take-nil}
 use Rattle.theory.proofs.Canonical.{listing-prefix}
 use Rattle.refusal.specs.declared.Verdict.{Verdict}
-use Rattle.refusal.specs.declared.Verdict.the-variants.{Accepted, Refused}
 use Rattle.refusal.specs.Refusals.{trial, firstMet, short, badKind, badSides, headOf, largestErosion}
 use Rattle.fields.specs.Fields.{fileLength}
 use Rattle.jobs.specs.Calls.{listed}

@@ -9,7 +9,6 @@ use test_io::print_refusal;
 use test_io::print_rest;
 use test_io::print_text;
 ghost use mathlib.Core.Path.{_≡_};
-ghost use Prim.Native.Nat.{_≤_};
 ghost use lib.ListN.{length};
 
 const SIDE: usize = refusal::LARGEST_SIDE as usize;

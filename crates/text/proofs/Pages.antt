@@ -1,19 +1,17 @@
 -- The lines of a file's text by their numbers, and pages that are filled part by part.
 use mathlib.Core.Path.{_≡_, refl, sym, ap, ap₂, _∙_, subst}
 use mathlib.Core.Bool.{Bool, true, false, cond}
-use mathlib.Core.List.{List, [], _∷_, _++_, append-assoc}
+use mathlib.Core.List.{List, [], _∷_, _++_}
 use Prim.Native.Nat.{ℕ, zero, suc, _+_, _-_, _*_, _≤_, _<_}
 use native.Mathlib.Nat.{zero-add}
 use native.Mathlib.Omega.{arith}
 use native.Mathlib.Decide.{decLe}
-use borrow.Author.Tests.{eq-eqb, ne-eqb, le-leb, lt-leb, eqb-true, eqb-false, leb-true, leb-false}
+use borrow.Author.Tests.{eq-eqb, ne-eqb, le-leb, lt-leb}
 use lib.Dec.{eqb, leb}
-use lib.ListN.{length, getD, length-append}
-use Rattle.geometry.specs.declared.Head.{Head}
+use lib.ListN.{length, getD}
 use Rattle.geometry.specs.Lists.{gather}
 use Rattle.theory.proofs.Lists.{gather-more, gather-same, gather-few}
 use Rattle.fields.specs.Fields.{place}
-use Rattle.fields.specs.Writing.{spliced}
 use Rattle.fields.proofs.Splice.{splice-nil}
 use Rattle.numerals.specs.Numerals.{Puts}
 use Rattle.geometry.specs.Sizes.{sizeOf}

@@ -1,23 +1,16 @@
 -- How long a line is.
-use mathlib.Core.Path.{_≡_, refl, sym, ap, ap₂, _∙_, subst}
-use mathlib.Core.Bool.{Bool, true, false, cond}
-use mathlib.Core.List.{List, [], _∷_, _++_, append-assoc, append-nil}
-use Prim.Native.Nat.{ℕ, zero, suc, _+_, _-_, _≤_, _<_}
+use mathlib.Core.Path.{_≡_}
+use mathlib.Core.List.{List, [], _∷_, _++_}
+use Prim.Native.Nat.{ℕ, _+_, _≤_, _<_}
 use native.Mathlib.Omega.{arith}
-use native.Mathlib.Numerals.{add-one}
-use native.Mathlib.Nat.{add-zero, zero-add, le-antisymm}
-use lib.ListN.{length, take, set, getD, length-append, length-set}
-use lib.Seq.{sets-eq, length-take-le, take-suc, take-length}
-use Rattle.fields.specs.Writing.{spliced}
-use Rattle.fields.proofs.Splice.{splice-nil, splice-splice, splice-length, splice-start}
+use lib.ListN.{length, length-append}
 use lib.Dec.{lit<}
 use Rattle.geometry.specs.declared.Kind.{Kind}
 use Rattle.geometry.specs.declared.Kind.the-variants.{Diamond, Square}
 use Rattle.geometry.specs.declared.Head.{Head}
 use Rattle.geometry.specs.declared.Plunge.{Plunge}
 use Rattle.geometry.specs.Forms.{kindByte}
-use Rattle.io.specs.Counts.{Counts}
-use Rattle.numerals.specs.Numerals.{numeral, Puts}
+use Rattle.numerals.specs.Numerals.{numeral}
 use Rattle.numerals.proofs.Sizes.{numeral-most, numeral-short}
 use Rattle.text_lines.specs.Text.{lineRoom, word, plateWord, totalWord, refusedWord, plateLine, plungeLine, totalLine}
 

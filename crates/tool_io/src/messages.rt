@@ -1,6 +1,5 @@
 // Messages on standard error: what they are about, a colon, words.
 use libc::STDERR_FILENO;
-ghost use Rattle.io.specs.Counts.{Counts};
 
 // One line.
 pub fn say(about: &[u8], words: &[u8]) {

@@ -1,7 +1,6 @@
 // An output: standard output, a device or a pipe written in place, or a file that takes its place when it is whole.
 use file_status::FileStatus;
 use libc::STDOUT_FILENO;
-ghost use mathlib.Core.Path.{_≡_};
 ghost use Prim.Native.Nat.{_≤_};
 ghost use Rattle.io.specs.Counts.{Counts};
 

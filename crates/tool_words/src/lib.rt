@@ -2,7 +2,6 @@
 pub mod scales;
 
 use libc::STDIN_FILENO;
-ghost use mathlib.Core.Path.{_≡_};
 ghost use Prim.Native.Nat.{_≤_, _<_};
 
 // What to do; its word is the first.

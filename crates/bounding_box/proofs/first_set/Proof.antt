@@ -1,19 +1,19 @@
 -- `first_set` looks at place after place: the invariant is that no number before the place reached is above 0.
 use Prim.Native.Nat.{_-_, _≤_}
 use native.Mathlib.Omega.{arith}
-use Rattle.bounding_box.specs.Boxes.{Bare}
-use Rattle.bounding_box.proofs.Boxing.{bare-none, bare-more, bare-in}
+use Rattle.buffers.specs.Runs.{ZeroRun}
+use Rattle.buffers.proofs.Zeros.{zeros-none, zeros-more, zeros-in}
 use Rattle.bounding_box.proofs.first_set.Statement.{statement}
 use Rattle.bounding_box.proofs.first_set.Tie as tie
 
 abbrev Inv-loop : tie.InvT-loop
-Inv-loop numbers n first₀ first = (first ≤ n) × Bare numbers 0 first
+Inv-loop numbers n first₀ first = (first ≤ n) × ZeroRun numbers 0 first
 
 abbrev μ-loop : tie.MeasureT-loop
 μ-loop numbers n first₀ first = n - first
 
 loop-holds : tie.Need-loop-holds Inv-loop μ-loop
-loop-holds c = (omega arith, bare-none _ 0)
+loop-holds c = (omega arith, zeros-none _ 0)
 
 shared-slice-read-if1 : tie.Need-shared-slice-read-if1 Inv-loop μ-loop
 shared-slice-read-if1 c = omega arith
@@ -28,13 +28,13 @@ loop-less : tie.Need-loop-less Inv-loop μ-loop
 loop-less c = omega arith
 
 loop-again : tie.Need-loop-again Inv-loop μ-loop
-loop-again c = (omega arith, bare-more _ _ _ (c .before .before .before .loop .inv .1) (omega (arith, c .if1 .left)))
+loop-again c = (omega arith, zeros-more _ _ _ (c .before .before .before .loop .inv .1) (omega (arith, c .if1 .left)))
 
 returns-2 : tie.Need-returns-2 Inv-loop μ-loop
 returns-2 c =
     record {
       within = omega arith;
-      under = bare-in _ _ _ _ _ (omega arith) (c .loop-test .left) (c .before .loop .inv .1);
+      under = zeros-in _ _ _ _ _ (omega arith) (c .loop-test .left) (c .before .loop .inv .1);
       set = λ l. absurd (omega arith);
     }
 

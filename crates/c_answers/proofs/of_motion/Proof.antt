@@ -2,9 +2,6 @@
 use borrow.Author.Needs.{needs}
 use Rattle.c_answers.proofs.of_motion.Statement.{statement}
 use Rattle.c_answers.proofs.of_motion.Tie as tie
-use Rattle.c_answers.proofs.of_motion.Reads as reads
-use Rattle.c_answers.proofs.of_motion.Lts as lts
-use Rattle.c_answers.proofs.moved.Reads as moved-reads
 use Rattle.sink.proofs.Literals.{literal-0}
 
 enum-known-motion : tie.Need-enum-known-motion

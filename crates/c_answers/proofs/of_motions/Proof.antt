@@ -5,7 +5,6 @@ use Rattle.sink.proofs.Literals.{literal-0}
 use borrow.Author.Needs.{needs}
 use Rattle.c_answers.proofs.of_motions.Statement.{statement}
 use Rattle.c_answers.proofs.of_motions.Tie as tie
-use Rattle.c_answers.proofs.of_three.Reads as of-three-reads
 
 enum-known-answer : tie.Need-enum-known-answer
 enum-known-answer c = search needs

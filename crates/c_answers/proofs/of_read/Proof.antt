@@ -4,7 +4,6 @@ use Rattle.c_answers.specs.Jobs.{ofRead}
 use borrow.Author.Needs.{needs}
 use Rattle.c_answers.proofs.of_read.Statement.{statement}
 use Rattle.c_answers.proofs.of_read.Tie as tie
-use Rattle.geometry.proofs.Kind.byte.Reads as byte-reads
 
 enum-known-answer : tie.Need-enum-known-answer
 enum-known-answer c = search needs

@@ -2,10 +2,6 @@
 use borrow.Author.Needs.{needs}
 use Rattle.c_answers.proofs.of_three.Statement.{statement}
 use Rattle.c_answers.proofs.of_three.Tie as tie
-use Rattle.c_answers.proofs.of_three.Reads as reads
-use Rattle.c_answers.proofs.of_three.Lts as lts
-use Rattle.c_answers.proofs.moved.Reads as moved-reads
-use Rattle.c_answers.proofs.of_motion.Reads as of-motion-reads
 
 of-motion-requires : tie.Need-of-motion-requires
 of-motion-requires c κs = search needs

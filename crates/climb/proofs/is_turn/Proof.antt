@@ -6,34 +6,25 @@ use mathlib.Core.Path.{sym}
 use borrow.Author.Needs.{needs}
 use Rattle.climb.proofs.is_turn.Statement.{statement}
 use Rattle.climb.proofs.is_turn.Tie as tie
-use Rattle.climb.proofs.is_turn.Reads as reads
-use Rattle.climb.proofs.is_turn.Lts as lts
 
--- src/lib.rt:120:17
 cast-width : tie.Need-cast-width
 cast-width c = search needs
 
--- src/lib.rt:122:9
 returns : tie.Need-returns
 returns c = λ e. absurd (true≢false (sym e))
 
--- src/lib.rt:124:24
 add-if2 : tie.Need-add-if2
 add-if2 c = search needs
 
--- src/lib.rt:125:9
 returns-2 : tie.Need-returns-2
 returns-2 c = λ e. absurd (true≢false (sym e))
 
--- src/lib.rt:128:9
 returns-3 : tie.Need-returns-3
 returns-3 c = λ e. absurd (true≢false (sym e))
 
--- src/lib.rt:130:24
 sub-if4 : tie.Need-sub-if4
 sub-if4 c = search needs
 
--- src/lib.rt:130:23
 mul-if4 : tie.Need-mul-if4
 mul-if4 c =
     let at-if1 = c .before .before .before .before .before in
@@ -45,11 +36,9 @@ mul-if4 c =
       mul-le-mul-right (at-start .args .climb .region .head .width) (sub-le (at-start .args .climb .stand .number) 1),
     )
 
--- src/lib.rt:131:9
 returns-4 : tie.Need-returns-4
 returns-4 c = λ e. absurd (true≢false (sym e))
 
--- src/lib.rt:115:1
 returns-5 : tie.Need-returns-5
 returns-5 c =
     let at-if3 = c .before .before .before in

@@ -3,20 +3,13 @@ use Rattle.climb.proofs.Climbs.{climbing-numbers, run-step, stepped}
 use borrow.Author.Needs.{needs}
 use Rattle.climb.proofs.next.Statement.{statement}
 use Rattle.climb.proofs.next.Tie as tie
-use Rattle.climb.proofs.next.Reads as reads
-use Rattle.climb.proofs.next.Lts as lts
-use Rattle.climb.proofs.narrow.Reads as narrow-reads
-use Rattle.climb.proofs.reach_of.Reads as reach-of-reads
-use Rattle.residue_series.proofs.next_run.Reads as next-run-reads
 
--- src/lib.rt:165:9
 next-run-requires : tie.Need-next-run-requires
 next-run-requires c κs =
     let at-start = c .before .before .before .before .before .before .before .before in
     record
     { relief = at-start .pre .climbs .climbs .relief; stands = at-start .pre .climbs .climbs .stands (at-start .pre .more); size = at-start .pre .size }
 
--- src/lib.rt:166:26
 add-reach-of : tie.Need-add-reach-of
 add-reach-of c =
     let at-next-run = c .before .before .before .before .before .before in
@@ -44,15 +37,12 @@ narrow-requires c κs =
           (at-start .pre .climbs .climbs) .climbs;
     }
 
--- src/lib.rt:154:1
 same-length : tie.Need-same-length
 same-length c = search needs
 
--- src/lib.rt:154:1
 same-length-2 : tie.Need-same-length-2
 same-length-2 c = search needs
 
--- src/lib.rt:154:1
 returns : tie.Need-returns
 returns c =
     let at-narrow = c .before .before .before .before in

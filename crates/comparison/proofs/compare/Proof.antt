@@ -2,14 +2,10 @@
 use borrow.Author.Needs.{needs}
 use Rattle.comparison.proofs.compare.Statement.{statement}
 use Rattle.comparison.proofs.compare.Tie as tie
-use Rattle.comparison.proofs.compare.Reads as reads
-use Rattle.comparison.proofs.compare.Lts as lts
 use mathlib.Core.Path.{subst}
 use Rattle.refusal.specs.declared.Verdict.{Verdict}
 use Rattle.jobs.specs.Calls.{Drawn}
 use Rattle.comparison.proofs.Maps.{drawn-holds, first-refused, first-done}
-use Rattle.comparison.proofs.compare_second.Reads as compare-second-reads
-use Rattle.jobs.proofs.draw.Reads as draw-reads
 
 draw-requires : tie.Need-draw-requires
 draw-requires c κs = search needs

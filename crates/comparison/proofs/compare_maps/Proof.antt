@@ -2,15 +2,12 @@
 use borrow.Author.Needs.{needs}
 use Rattle.comparison.proofs.compare_maps.Statement.{statement}
 use Rattle.comparison.proofs.compare_maps.Tie as tie
-use Rattle.comparison.proofs.compare_maps.Reads as reads
-use Rattle.comparison.proofs.compare_maps.Lts as lts
 use native.Mathlib.Omega.{arith}
 use native.Mathlib.Nat.{mul-le-mul}
 use lib.Seq.{length-take-le}
 use Rattle.geometry.specs.Plate.{area}
 use Rattle.comparison.proofs.Maps.{maps-differ, maps-agree}
 use mathlib.Core.Path.{sym}
-use Rattle.listing_pass.proofs.common_run.Reads as common-run-reads
 
 cast-width : tie.Need-cast-width
 cast-width c = search needs

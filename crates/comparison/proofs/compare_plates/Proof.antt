@@ -2,13 +2,9 @@
 use borrow.Author.Needs.{needs}
 use Rattle.comparison.proofs.compare_plates.Statement.{statement}
 use Rattle.comparison.proofs.compare_plates.Tie as tie
-use Rattle.comparison.proofs.compare_plates.Reads as reads
-use Rattle.comparison.proofs.compare_plates.Lts as lts
 use native.Mathlib.Omega.{arith}
-use mathlib.Core.Path.{_∙_, sym}
+use mathlib.Core.Path.{_∙_}
 use Rattle.comparison.proofs.Maps.{kinds-differ, widths-differ, heights-differ, sizes-agree, same-area}
-use Rattle.comparison.proofs.compare_maps.Reads as compare-maps-reads
-use Rattle.geometry.proofs.Kind.byte.Reads as byte-reads
 
 byte-requires : tie.Need-byte-requires
 byte-requires c κs = search needs

@@ -2,11 +2,8 @@
 use borrow.Author.Needs.{needs}
 use Rattle.comparison.proofs.compare_second.Statement.{statement}
 use Rattle.comparison.proofs.compare_second.Tie as tie
-use Rattle.comparison.proofs.compare_second.Reads as reads
-use Rattle.comparison.proofs.compare_second.Lts as lts
 use native.Mathlib.Omega.{arith}
-use mathlib.Core.Path.{_≡_, _∙_, sym, ap, subst}
-use Rattle.geometry.specs.declared.Head.{Head}
+use mathlib.Core.Path.{_∙_, sym, ap, subst}
 use Rattle.geometry.specs.Plate.{area}
 use Rattle.refusal.specs.Sides.{Sides}
 use Rattle.refusal.specs.declared.Verdict.{Verdict}
@@ -14,9 +11,6 @@ use Rattle.reading.proofs.Readable.{readable-sound}
 use Rattle.jobs.specs.Calls.{Drawn}
 use Rattle.comparison.specs.Drawings.{platesCompared}
 use Rattle.comparison.proofs.Maps.{drawn-holds, holds-head, plates-same, second-refused, second-done}
-use Rattle.comparison.proofs.compare_plates.Reads as compare-plates-reads
-use Rattle.reading.proofs.head_in.Reads as head-in-reads
-use Rattle.jobs.proofs.draw.Reads as draw-reads
 
 draw-requires : tie.Need-draw-requires
 draw-requires c κs = search needs

@@ -1,12 +1,8 @@
 -- `append_cell` puts the cell and both depths.
 use borrow.Author.Needs.{needs}
-use Rattle.phrases.proofs.Appends.{Appended, appended-then}
+use Rattle.phrases.proofs.Appends.{appended-then}
 use Rattle.comparison_text.proofs.append_cell.Statement.{statement}
 use Rattle.comparison_text.proofs.append_cell.Tie as tie
-use Rattle.comparison_text.proofs.append_cell.Reads as reads
-use Rattle.comparison_text.proofs.append_cell.Lts as lts
-use Rattle.comparison_text.proofs.wide.Reads as wide-reads
-use Rattle.phrases.proofs.append_phrase.Reads as append-phrase-reads
 
 slice-aggregate-append-phrase : tie.Need-slice-aggregate-append-phrase
 slice-aggregate-append-phrase c = search needs

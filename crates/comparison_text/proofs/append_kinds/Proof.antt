@@ -1,12 +1,8 @@
 -- `append_kinds` puts two kinds.
 use borrow.Author.Needs.{needs}
-use Rattle.phrases.proofs.Appends.{Appended, appended-then}
+use Rattle.phrases.proofs.Appends.{appended-then}
 use Rattle.comparison_text.proofs.append_kinds.Statement.{statement}
 use Rattle.comparison_text.proofs.append_kinds.Tie as tie
-use Rattle.comparison_text.proofs.append_kinds.Reads as reads
-use Rattle.comparison_text.proofs.append_kinds.Lts as lts
-use Rattle.comparison_text.proofs.number_in.Reads as number-in-reads
-use Rattle.phrases.proofs.append_phrase.Reads as append-phrase-reads
 
 slice-aggregate-append-phrase : tie.Need-slice-aggregate-append-phrase
 slice-aggregate-append-phrase c = search needs

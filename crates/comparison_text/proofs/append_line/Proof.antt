@@ -4,12 +4,6 @@ use Rattle.phrases.proofs.Appends.{appended, appends-none}
 use Rattle.comparison_text.specs.Line.{comparisonLine}
 use Rattle.comparison_text.proofs.append_line.Statement.{statement}
 use Rattle.comparison_text.proofs.append_line.Tie as tie
-use Rattle.comparison_text.proofs.append_line.Reads as reads
-use Rattle.comparison_text.proofs.append_line.Lts as lts
-use Rattle.comparison_text.proofs.append_cell.Reads as append-cell-reads
-use Rattle.comparison_text.proofs.append_kinds.Reads as append-kinds-reads
-use Rattle.comparison_text.proofs.append_sizes.Reads as append-sizes-reads
-use Rattle.phrases.proofs.append.Reads as append-reads
 
 enum-told : tie.Need-enum-told
 enum-told c = search needs

@@ -1,12 +1,8 @@
 -- `append_sizes` puts two sizes.
 use borrow.Author.Needs.{needs}
-use Rattle.phrases.proofs.Appends.{Appended, appended-then}
+use Rattle.phrases.proofs.Appends.{appended-then}
 use Rattle.comparison_text.proofs.append_sizes.Statement.{statement}
 use Rattle.comparison_text.proofs.append_sizes.Tie as tie
-use Rattle.comparison_text.proofs.append_sizes.Reads as reads
-use Rattle.comparison_text.proofs.append_sizes.Lts as lts
-use Rattle.comparison_text.proofs.append_size.Reads as append-size-reads
-use Rattle.phrases.proofs.append.Reads as append-reads
 
 slice-aggregate-append : tie.Need-slice-aggregate-append
 slice-aggregate-append c = search needs

@@ -2,7 +2,6 @@
 use borrow.Author.Needs.{needs}
 use Rattle.decimal.proofs.number_of.Statement.{statement}
 use Rattle.decimal.proofs.number_of.Tie as tie
-use Rattle.decimal.proofs.unsigned.Reads as unsigned-reads
 use Rattle.decimal.proofs.Scans.{no-text, with-minus, no-minus}
 
 unsigned-requires : tie.Need-unsigned-requires

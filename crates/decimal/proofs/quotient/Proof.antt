@@ -2,7 +2,6 @@
 use borrow.Author.Needs.{needs}
 use Rattle.decimal.proofs.quotient.Statement.{statement}
 use Rattle.decimal.proofs.quotient.Tie as tie
-use Rattle.std.proofs.num.nearest_u64_to_f64.Reads as nearest-u64-to-f64-reads
 use Rattle.decimal.proofs.Quotients.{quotient-of, negative-of}
 
 nearest-u64-to-f64-requires : tie.Need-nearest-u64-to-f64-requires

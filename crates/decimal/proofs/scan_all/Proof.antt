@@ -1,7 +1,6 @@
 -- `scan_all` reads every byte.
 use Rattle.decimal.proofs.scan_all.Statement.{statement}
 use Rattle.decimal.proofs.scan_all.Tie as tie
-use Rattle.decimal.proofs.step.Reads as step-reads
 use mathlib.Core.Path.{_≡_, refl, _∙_}
 use Prim.Native.Nat.{_≤_, _-_}
 use native.Mathlib.Omega.{arith}

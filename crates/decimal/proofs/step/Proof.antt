@@ -2,10 +2,6 @@
 use borrow.Author.Needs.{needs}
 use Rattle.decimal.proofs.step.Statement.{statement}
 use Rattle.decimal.proofs.step.Tie as tie
-use Rattle.decimal.proofs.is_digit.Reads as is-digit-reads
-use Rattle.decimal.proofs.spoil.Reads as spoil-reads
-use Rattle.decimal.proofs.with_digit.Reads as with-digit-reads
-use Rattle.decimal.proofs.with_point.Reads as with-point-reads
 use mathlib.Core.Path.{sym, _∙_}
 use native.Mathlib.Omega.{arith}
 use Rattle.decimal.proofs.Scans.{digit-least, digit-most}

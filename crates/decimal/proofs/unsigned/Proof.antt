@@ -3,8 +3,6 @@ use native.Mathlib.Omega.{arith}
 use borrow.Author.Needs.{needs}
 use Rattle.decimal.proofs.unsigned.Statement.{statement}
 use Rattle.decimal.proofs.unsigned.Tie as tie
-use Rattle.decimal.proofs.quotient.Reads as quotient-reads
-use Rattle.decimal.proofs.scan_all.Reads as scan-all-reads
 use borrow.Author.Tests.{not-true, not-false}
 use Rattle.decimal.proofs.Scans.{not-good, no-digit, too-long, number, short}
 

@@ -2,7 +2,6 @@
 use borrow.Author.Needs.{needs}
 use Rattle.decimal.proofs.with_digit.Statement.{statement}
 use Rattle.decimal.proofs.with_digit.Tie as tie
-use Rattle.decimal.proofs.factor.Reads as factor-reads
 use native.Mathlib.Omega.{arith}
 use borrow.Author.Tests.{lt-ltb, le-ltb}
 use Rattle.decimal.proofs.Scans.{room, room-unit}

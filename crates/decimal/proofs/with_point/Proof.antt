@@ -2,7 +2,6 @@
 use borrow.Author.Needs.{needs}
 use Rattle.decimal.proofs.with_point.Statement.{statement}
 use Rattle.decimal.proofs.with_point.Tie as tie
-use Rattle.decimal.proofs.spoil.Reads as spoil-reads
 
 spoil-requires : tie.Need-spoil-requires
 spoil-requires c κs = search needs

@@ -1,8 +1,6 @@
 -- `digits_of` finds the fewest digits, and of those the nearest.
 use Rattle.decimal_text.proofs.digits_of.Statement.{statement}
 use Rattle.decimal_text.proofs.digits_of.Tie as tie
-use Rattle.decimal_text.proofs.is_far.Reads as is-far-reads
-use Rattle.decimal_text.proofs.nearer.Reads as nearer-reads
 use mathlib.Core.Path.{_≡_, sym, _∙_}
 use mathlib.Core.Bool.{true}
 use Prim.Native.Nat.{_-_, _^_, _≤_}

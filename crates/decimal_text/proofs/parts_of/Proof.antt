@@ -2,8 +2,6 @@
 use borrow.Author.Needs.{needs}
 use Rattle.decimal_text.proofs.parts_of.Statement.{statement}
 use Rattle.decimal_text.proofs.parts_of.Tie as tie
-use Rattle.decimal_text.proofs.half_gap.Reads as half-gap-reads
-use Rattle.decimal_text.proofs.power.Reads as power-reads
 use native.Mathlib.Omega.{arith}
 use lib.Pow.{pow-pos}
 use Rattle.decimal_text.proofs.Sizes.{unit-most, parts-are, parts-fit}

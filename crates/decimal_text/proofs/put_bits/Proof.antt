@@ -2,10 +2,6 @@
 use borrow.Author.Needs.{needs}
 use Rattle.decimal_text.proofs.put_bits.Statement.{statement}
 use Rattle.decimal_text.proofs.put_bits.Tie as tie
-use Rattle.decimal_text.proofs.digits_of.Reads as digits-of-reads
-use Rattle.decimal_text.proofs.parts_of.Reads as parts-of-reads
-use Rattle.decimal_text.proofs.put_hexadecimal.Reads as put-hexadecimal-reads
-use Rattle.decimal_text.proofs.put_parts.Reads as put-parts-reads
 use Rattle.decimal_text.proofs.Sizes.{half-pos, fraction-below}
 use Rattle.decimal_text.proofs.Shortest.{digits-few}
 use Rattle.decimal_text.proofs.Texts.{put-same}

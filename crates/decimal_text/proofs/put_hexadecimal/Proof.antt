@@ -2,8 +2,6 @@
 use borrow.Author.Needs.{needs}
 use Rattle.decimal_text.proofs.put_hexadecimal.Statement.{statement}
 use Rattle.decimal_text.proofs.put_hexadecimal.Tie as tie
-use Rattle.decimal_text.proofs.has_room.Reads as has-room-reads
-use Rattle.numerals.proofs.put_digits.Reads as put-digits-reads
 use Prim.Native.Nat.{_+_, _≤_}
 use native.Mathlib.Omega.{arith}
 use lib.ListN.{length, length-set}

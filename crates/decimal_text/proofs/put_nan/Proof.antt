@@ -2,7 +2,6 @@
 use borrow.Author.Needs.{needs}
 use Rattle.decimal_text.proofs.put_nan.Statement.{statement}
 use Rattle.decimal_text.proofs.put_nan.Tie as tie
-use Rattle.decimal_text.proofs.has_room.Reads as has-room-reads
 use mathlib.Core.Path.{refl}
 use Prim.Native.Nat.{_+_, _≤_}
 use native.Mathlib.Omega.{arith}

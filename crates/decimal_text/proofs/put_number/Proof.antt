@@ -2,8 +2,6 @@
 use borrow.Author.Needs.{needs}
 use Rattle.decimal_text.proofs.put_number.Statement.{statement}
 use Rattle.decimal_text.proofs.put_number.Tie as tie
-use Rattle.decimal_text.proofs.put_bits.Reads as put-bits-reads
-use Rattle.decimal_text.proofs.put_nan.Reads as put-nan-reads
 use Rattle.decimal_text.proofs.Texts.{put-same}
 use Rattle.decimal_text.proofs.Floats.{is-number, number-nan, number-bits}
 

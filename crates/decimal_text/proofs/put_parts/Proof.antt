@@ -2,10 +2,6 @@
 use borrow.Author.Needs.{needs}
 use Rattle.decimal_text.proofs.put_parts.Statement.{statement}
 use Rattle.decimal_text.proofs.put_parts.Tie as tie
-use Rattle.decimal_text.proofs.has_room.Reads as has-room-reads
-use Rattle.numerals.proofs.put_digits.Reads as put-digits-reads
-use Rattle.numerals.proofs.digit_count.Reads as digit-count-reads
-use Rattle.decimal_text.proofs.tail_length.Reads as tail-length-reads
 use mathlib.Core.Path.{_≡_}
 use Prim.Native.Nat.{_+_, _≤_}
 use native.Mathlib.Omega.{arith}

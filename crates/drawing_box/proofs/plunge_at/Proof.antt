@@ -7,11 +7,6 @@ use Rattle.drawing_box.proofs.Rooms.{field-room, told, told-none}
 use borrow.Author.Needs.{needs}
 use Rattle.drawing_box.proofs.plunge_at.Statement.{statement}
 use Rattle.drawing_box.proofs.plunge_at.Tie as tie
-use Rattle.drawing_box.proofs.plunge_at.Reads as reads
-use Rattle.drawing_box.proofs.plunge_at.Lts as lts
-use Rattle.fields.proofs.place.Reads as place-reads
-use Rattle.geometry.proofs.Head.size.Reads as size-reads
-use Rattle.reading.proofs.plunge_at.Reads as plunge-at-reads
 
 size-requires : tie.Need-size-requires
 size-requires c κs = search needs

@@ -6,9 +6,6 @@ use Rattle.drawing_box.proofs.Boxed.{told-held}
 use borrow.Author.Needs.{needs}
 use Rattle.drawing_box.proofs.plunge_in.Statement.{statement}
 use Rattle.drawing_box.proofs.plunge_in.Tie as tie
-use Rattle.drawing_box.proofs.plunge_in.Reads as reads
-use Rattle.drawing_box.proofs.plunge_in.Lts as lts
-use Rattle.drawing_box.proofs.plunge_at.Reads as plunge-at-reads
 
 plunge-at-requires : tie.Need-plunge-at-requires
 plunge-at-requires c κs = search needs

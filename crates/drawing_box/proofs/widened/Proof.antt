@@ -2,10 +2,6 @@
 use borrow.Author.Needs.{needs}
 use Rattle.drawing_box.proofs.widened.Statement.{statement}
 use Rattle.drawing_box.proofs.widened.Tie as tie
-use Rattle.drawing_box.proofs.widened.Reads as reads
-use Rattle.drawing_box.proofs.widened.Lts as lts
-use Rattle.numbers.proofs.larger.Reads as larger-reads
-use Rattle.numbers.proofs.smaller.Reads as smaller-reads
 
 cast-reach : tie.Need-cast-reach
 cast-reach c = search needs

@@ -3,21 +3,13 @@ use Rattle.fields.proofs.Sized.{head-room, head-put, small-head}
 use borrow.Author.Needs.{needs}
 use Rattle.fields.proofs.put_head.Statement.{statement}
 use Rattle.fields.proofs.put_head.Tie as tie
-use Rattle.fields.proofs.put_head.Reads as reads
-use Rattle.fields.proofs.put_head.Lts as lts
-use Rattle.fields.proofs.put_large_head.Reads as put-large-head-reads
-use Rattle.fields.proofs.put_small_head.Reads as put-small-head-reads
-use Rattle.geometry.proofs.Head.size.Reads as size-reads
 
--- src/lib.rt:137:9
 size-requires : tie.Need-size-requires
 size-requires c κs = search needs
 
--- src/lib.rt:139:39
 enum-told : tie.Need-enum-told
 enum-told c = search needs
 
--- src/lib.rt:139:24
 put-small-head-requires : tie.Need-put-small-head-requires
 put-small-head-requires c κs =
     let at-size = c .before .before .before in
@@ -28,11 +20,9 @@ put-small-head-requires c κs =
       small-head (given .head) (sym (at-size .size .ensures) ∙ c .before .enum-told .given .1),
     )
 
--- src/lib.rt:140:39
 enum-told-2 : tie.Need-enum-told-2
 enum-told-2 c = search needs
 
--- src/lib.rt:140:24
 put-large-head-requires : tie.Need-put-large-head-requires
 put-large-head-requires c κs =
     let at-size = c .before .before .before in
@@ -41,11 +31,9 @@ put-large-head-requires c κs =
     head-room (given .head) _ (sym (at-size .size .ensures) ∙ c .before .enum-told2 .given .1) (given .out .now)
     (given .out .now) (at-start .pre)
 
--- src/lib.rt:133:1
 same-length : tie.Need-same-length
 same-length c = search needs
 
--- src/lib.rt:133:1
 returns : tie.Need-returns
 returns c =
     let at-enum-told = c .before .before .before .before in
@@ -54,11 +42,9 @@ returns c =
     head-put (at-start .args .head) _ (sym (at-size .size .ensures) ∙ at-enum-told .enum-told .given .1) _ _
     (c .before .before .put-small-head .ensures)
 
--- src/lib.rt:133:1
 same-length-2 : tie.Need-same-length-2
 same-length-2 c = search needs
 
--- src/lib.rt:133:1
 returns-2 : tie.Need-returns-2
 returns-2 c =
     let at-enum-told2 = c .before .before .before .before in

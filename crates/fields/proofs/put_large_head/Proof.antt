@@ -4,79 +4,55 @@ use lib.ListN.{length-set}
 use borrow.Author.Needs.{needs}
 use Rattle.fields.proofs.put_large_head.Statement.{statement}
 use Rattle.fields.proofs.put_large_head.Tie as tie
-use Rattle.fields.proofs.put_large_head.Reads as reads
-use Rattle.fields.proofs.put_large_head.Lts as lts
-use Rattle.fields.proofs.head_size.Reads as head-size-reads
-use Rattle.fields.proofs.head_tag.Reads as head-tag-reads
-use Rattle.numbers.proofs.first_byte.Reads as first-byte-reads
-use Rattle.numbers.proofs.second_byte.Reads as second-byte-reads
-use Rattle.geometry.proofs.Kind.byte.Reads as byte-reads
 
--- src/lib.rt:122:14
 head-tag-requires : tie.Need-head-tag-requires
 head-tag-requires c κs = search needs
 
--- src/lib.rt:122:5
 slice-write-out : tie.Need-slice-write-out
 slice-write-out c = search needs
 
--- src/lib.rt:123:5
 slice-write-out-2 : tie.Need-slice-write-out-2
 slice-write-out-2 c = simp length-set (omega arith)
 
--- src/lib.rt:124:14
 head-size-requires : tie.Need-head-size-requires
 head-size-requires c κs = search needs
 
--- src/lib.rt:124:5
 slice-write-out-3 : tie.Need-slice-write-out-3
 slice-write-out-3 c = simp length-set (omega arith)
 
--- src/lib.rt:125:14
 byte-requires : tie.Need-byte-requires
 byte-requires c κs = search needs
 
--- src/lib.rt:125:5
 slice-write-out-4 : tie.Need-slice-write-out-4
 slice-write-out-4 c = simp length-set (omega arith)
 
--- src/lib.rt:126:14
 first-byte-requires : tie.Need-first-byte-requires
 first-byte-requires c κs = search needs
 
--- src/lib.rt:126:5
 slice-write-out-5 : tie.Need-slice-write-out-5
 slice-write-out-5 c = simp length-set (omega arith)
 
--- src/lib.rt:127:14
 second-byte-requires : tie.Need-second-byte-requires
 second-byte-requires c κs = search needs
 
--- src/lib.rt:127:5
 slice-write-out-6 : tie.Need-slice-write-out-6
 slice-write-out-6 c = simp length-set (omega arith)
 
--- src/lib.rt:128:14
 first-byte-requires-2 : tie.Need-first-byte-requires-2
 first-byte-requires-2 c κs = search needs
 
--- src/lib.rt:128:5
 slice-write-out-7 : tie.Need-slice-write-out-7
 slice-write-out-7 c = simp length-set (omega arith)
 
--- src/lib.rt:129:14
 second-byte-requires-2 : tie.Need-second-byte-requires-2
 second-byte-requires-2 c κs = search needs
 
--- src/lib.rt:129:5
 slice-write-out-8 : tie.Need-slice-write-out-8
 slice-write-out-8 c = simp length-set (omega arith)
 
--- src/lib.rt:117:1
 same-length : tie.Need-same-length
 same-length c = search needs
 
--- src/lib.rt:117:1
 returns : tie.Need-returns
 returns c =
     let at-first-byte = c .before .before .before in

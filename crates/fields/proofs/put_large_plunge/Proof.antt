@@ -4,126 +4,91 @@ use lib.ListN.{length-set}
 use borrow.Author.Needs.{needs}
 use Rattle.fields.proofs.put_large_plunge.Statement.{statement}
 use Rattle.fields.proofs.put_large_plunge.Tie as tie
-use Rattle.fields.proofs.put_large_plunge.Reads as reads
-use Rattle.fields.proofs.put_large_plunge.Lts as lts
-use Rattle.numbers.proofs.first_byte.Reads as first-byte-reads
-use Rattle.numbers.proofs.second_byte.Reads as second-byte-reads
-use Rattle.fields.proofs.plunge_size.Reads as plunge-size-reads
-use Rattle.fields.proofs.plunge_tag.Reads as plunge-tag-reads
 
--- src/lib.rt:164:15
 plunge-tag-requires : tie.Need-plunge-tag-requires
 plunge-tag-requires c κs = search needs
 
--- src/lib.rt:164:5
 slice-write-out : tie.Need-slice-write-out
 slice-write-out c = search needs
 
--- src/lib.rt:165:9
 add-out : tie.Need-add-out
 add-out c = search needs
 
--- src/lib.rt:165:5
 slice-write-out-2 : tie.Need-slice-write-out-2
 slice-write-out-2 c = simp length-set (omega arith)
 
--- src/lib.rt:166:19
 plunge-size-requires : tie.Need-plunge-size-requires
 plunge-size-requires c κs = search needs
 
--- src/lib.rt:166:9
 add-out-2 : tie.Need-add-out-2
 add-out-2 c = search needs
 
--- src/lib.rt:166:5
 slice-write-out-3 : tie.Need-slice-write-out-3
 slice-write-out-3 c = simp length-set (omega arith)
 
--- src/lib.rt:167:19
 first-byte-requires : tie.Need-first-byte-requires
 first-byte-requires c κs = search needs
 
--- src/lib.rt:167:9
 add-out-3 : tie.Need-add-out-3
 add-out-3 c = search needs
 
--- src/lib.rt:167:5
 slice-write-out-4 : tie.Need-slice-write-out-4
 slice-write-out-4 c = simp length-set (omega arith)
 
--- src/lib.rt:168:19
 second-byte-requires : tie.Need-second-byte-requires
 second-byte-requires c κs = search needs
 
--- src/lib.rt:168:9
 add-out-4 : tie.Need-add-out-4
 add-out-4 c = search needs
 
--- src/lib.rt:168:5
 slice-write-out-5 : tie.Need-slice-write-out-5
 slice-write-out-5 c = simp length-set (omega arith)
 
--- src/lib.rt:169:19
 first-byte-requires-2 : tie.Need-first-byte-requires-2
 first-byte-requires-2 c κs = search needs
 
--- src/lib.rt:169:9
 add-out-5 : tie.Need-add-out-5
 add-out-5 c = search needs
 
--- src/lib.rt:169:5
 slice-write-out-6 : tie.Need-slice-write-out-6
 slice-write-out-6 c = simp length-set (omega arith)
 
--- src/lib.rt:170:19
 second-byte-requires-2 : tie.Need-second-byte-requires-2
 second-byte-requires-2 c κs = search needs
 
--- src/lib.rt:170:9
 add-out-6 : tie.Need-add-out-6
 add-out-6 c = search needs
 
--- src/lib.rt:170:5
 slice-write-out-7 : tie.Need-slice-write-out-7
 slice-write-out-7 c = simp length-set (omega arith)
 
--- src/lib.rt:171:19
 first-byte-requires-3 : tie.Need-first-byte-requires-3
 first-byte-requires-3 c κs = search needs
 
--- src/lib.rt:171:9
 add-out-7 : tie.Need-add-out-7
 add-out-7 c = search needs
 
--- src/lib.rt:171:5
 slice-write-out-8 : tie.Need-slice-write-out-8
 slice-write-out-8 c = simp length-set (omega arith)
 
--- src/lib.rt:172:19
 second-byte-requires-3 : tie.Need-second-byte-requires-3
 second-byte-requires-3 c κs = search needs
 
--- src/lib.rt:172:9
 add-out-8 : tie.Need-add-out-8
 add-out-8 c = search needs
 
--- src/lib.rt:172:5
 slice-write-out-9 : tie.Need-slice-write-out-9
 slice-write-out-9 c = simp length-set (omega arith)
 
--- src/lib.rt:173:9
 add-out-9 : tie.Need-add-out-9
 add-out-9 c = search needs
 
--- src/lib.rt:173:5
 slice-write-out-10 : tie.Need-slice-write-out-10
 slice-write-out-10 c = simp length-set (omega arith)
 
--- src/lib.rt:159:1
 same-length : tie.Need-same-length
 same-length c = simp length-set
 
--- src/lib.rt:159:1
 returns : tie.Need-returns
 returns c =
     let at-first-byte2 = c .before .before .before in

@@ -2,16 +2,10 @@ use Rattle.fields.proofs.Sized.{plunge-room, plunge-put}
 use borrow.Author.Needs.{needs}
 use Rattle.fields.proofs.put_plunge.Statement.{statement}
 use Rattle.fields.proofs.put_plunge.Tie as tie
-use Rattle.fields.proofs.put_plunge.Reads as reads
-use Rattle.fields.proofs.put_plunge.Lts as lts
-use Rattle.fields.proofs.put_large_plunge.Reads as put-large-plunge-reads
-use Rattle.fields.proofs.put_small_plunge.Reads as put-small-plunge-reads
 
--- src/lib.rt:182:41
 enum-told : tie.Need-enum-told
 enum-told c = search needs
 
--- src/lib.rt:182:24
 put-small-plunge-requires : tie.Need-put-small-plunge-requires
 put-small-plunge-requires c κs =
     let at-start = c .before .before .before .before in
@@ -19,11 +13,9 @@ put-small-plunge-requires c κs =
     plunge-room (given .q) _ _ (c .before .enum-told .given .1) (given .at) (given .out .now) (given .out .now)
     (at-start .pre .0) (at-start .pre .1)
 
--- src/lib.rt:183:41
 enum-told-2 : tie.Need-enum-told-2
 enum-told-2 c = search needs
 
--- src/lib.rt:183:24
 put-large-plunge-requires : tie.Need-put-large-plunge-requires
 put-large-plunge-requires c κs =
     let at-start = c .before .before .before .before in
@@ -31,11 +23,9 @@ put-large-plunge-requires c κs =
     plunge-room (given .q) _ _ (c .before .enum-told2 .given .1) (given .at) (given .out .now) (given .out .now)
     (at-start .pre .0) (at-start .pre .1) .0
 
--- src/lib.rt:177:1
 same-length : tie.Need-same-length
 same-length c = search needs
 
--- src/lib.rt:177:1
 returns : tie.Need-returns
 returns c =
     let at-enum-told = c .before .before .before .before in
@@ -44,11 +34,9 @@ returns c =
     plunge-put (given .q) _ _ (at-enum-told .enum-told .given .1) (given .at) (given .out .now) _
     (c .before .before .put-small-plunge .ensures)
 
--- src/lib.rt:177:1
 same-length-2 : tie.Need-same-length-2
 same-length-2 c = search needs
 
--- src/lib.rt:177:1
 returns-2 : tie.Need-returns-2
 returns-2 c =
     let at-enum-told2 = c .before .before .before .before in

@@ -4,61 +4,43 @@ use lib.ListN.{length-set}
 use borrow.Author.Needs.{needs}
 use Rattle.fields.proofs.put_small_head.Statement.{statement}
 use Rattle.fields.proofs.put_small_head.Tie as tie
-use Rattle.fields.proofs.put_small_head.Reads as reads
-use Rattle.fields.proofs.put_small_head.Lts as lts
-use Rattle.fields.proofs.head_size.Reads as head-size-reads
-use Rattle.fields.proofs.head_tag.Reads as head-tag-reads
-use Rattle.geometry.proofs.Kind.byte.Reads as byte-reads
 
--- src/lib.rt:108:14
 head-tag-requires : tie.Need-head-tag-requires
 head-tag-requires c κs = search needs
 
--- src/lib.rt:108:5
 slice-write-out : tie.Need-slice-write-out
 slice-write-out c = search needs
 
--- src/lib.rt:109:5
 slice-write-out-2 : tie.Need-slice-write-out-2
 slice-write-out-2 c = simp length-set (omega arith)
 
--- src/lib.rt:110:14
 head-size-requires : tie.Need-head-size-requires
 head-size-requires c κs = search needs
 
--- src/lib.rt:110:5
 slice-write-out-3 : tie.Need-slice-write-out-3
 slice-write-out-3 c = simp length-set (omega arith)
 
--- src/lib.rt:111:14
 byte-requires : tie.Need-byte-requires
 byte-requires c κs = search needs
 
--- src/lib.rt:111:5
 slice-write-out-4 : tie.Need-slice-write-out-4
 slice-write-out-4 c = simp length-set (omega arith)
 
--- src/lib.rt:112:14
 cast-out : tie.Need-cast-out
 cast-out c = search needs
 
--- src/lib.rt:112:5
 slice-write-out-5 : tie.Need-slice-write-out-5
 slice-write-out-5 c = simp length-set (omega arith)
 
--- src/lib.rt:113:14
 cast-out-2 : tie.Need-cast-out-2
 cast-out-2 c = search needs
 
--- src/lib.rt:113:5
 slice-write-out-6 : tie.Need-slice-write-out-6
 slice-write-out-6 c = search needs
 
--- src/lib.rt:103:1
 same-length : tie.Need-same-length
 same-length c = search needs
 
--- src/lib.rt:103:1
 returns : tie.Need-returns
 returns c =
     let at-head-size = c .before .before .before in

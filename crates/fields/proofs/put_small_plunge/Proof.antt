@@ -4,87 +4,64 @@ use lib.ListN.{length-set}
 use borrow.Author.Needs.{needs}
 use Rattle.fields.proofs.put_small_plunge.Statement.{statement}
 use Rattle.fields.proofs.put_small_plunge.Tie as tie
-use Rattle.fields.proofs.put_small_plunge.Reads as reads
-use Rattle.fields.proofs.put_small_plunge.Lts as lts
-use Rattle.fields.proofs.plunge_size.Reads as plunge-size-reads
-use Rattle.fields.proofs.plunge_tag.Reads as plunge-tag-reads
 
--- src/lib.rt:149:15
 plunge-tag-requires : tie.Need-plunge-tag-requires
 plunge-tag-requires c κs = search needs
 
--- src/lib.rt:149:5
 slice-write-out : tie.Need-slice-write-out
 slice-write-out c = search needs
 
--- src/lib.rt:150:9
 add-out : tie.Need-add-out
 add-out c = search needs
 
--- src/lib.rt:150:5
 slice-write-out-2 : tie.Need-slice-write-out-2
 slice-write-out-2 c = simp length-set (omega arith)
 
--- src/lib.rt:151:19
 plunge-size-requires : tie.Need-plunge-size-requires
 plunge-size-requires c κs = search needs
 
--- src/lib.rt:151:9
 add-out-2 : tie.Need-add-out-2
 add-out-2 c = search needs
 
--- src/lib.rt:151:5
 slice-write-out-3 : tie.Need-slice-write-out-3
 slice-write-out-3 c = simp length-set (omega arith)
 
--- src/lib.rt:152:19
 cast-out : tie.Need-cast-out
 cast-out c = search needs
 
--- src/lib.rt:152:9
 add-out-3 : tie.Need-add-out-3
 add-out-3 c = search needs
 
--- src/lib.rt:152:5
 slice-write-out-4 : tie.Need-slice-write-out-4
 slice-write-out-4 c = simp length-set (omega arith)
 
--- src/lib.rt:153:19
 cast-out-2 : tie.Need-cast-out-2
 cast-out-2 c = search needs
 
--- src/lib.rt:153:9
 add-out-4 : tie.Need-add-out-4
 add-out-4 c = search needs
 
--- src/lib.rt:153:5
 slice-write-out-5 : tie.Need-slice-write-out-5
 slice-write-out-5 c = simp length-set (omega arith)
 
--- src/lib.rt:154:9
 add-out-5 : tie.Need-add-out-5
 add-out-5 c = search needs
 
--- src/lib.rt:154:5
 cast-out-3 : tie.Need-cast-out-3
 cast-out-3 c = search needs
 
 slice-write-out-6 : tie.Need-slice-write-out-6
 slice-write-out-6 c = simp length-set (omega arith)
 
--- src/lib.rt:155:9
 add-out-6 : tie.Need-add-out-6
 add-out-6 c = search needs
 
--- src/lib.rt:155:5
 slice-write-out-7 : tie.Need-slice-write-out-7
 slice-write-out-7 c = simp length-set (omega arith)
 
--- src/lib.rt:145:1
 same-length : tie.Need-same-length
 same-length c = search needs
 
--- src/lib.rt:145:1
 returns : tie.Need-returns
 returns c =
     let at-plunge-size = c .before .before .before in

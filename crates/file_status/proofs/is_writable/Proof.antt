@@ -2,31 +2,22 @@
 use borrow.Author.Needs.{needs}
 use Rattle.file_status.proofs.is_writable.Statement.{statement}
 use Rattle.file_status.proofs.is_writable.Tie as tie
-use Rattle.file_status.proofs.is_writable.Reads as reads
-use Rattle.file_status.proofs.is_writable.Lts as lts
-use Rattle.file_status.proofs.path.is_path.Reads as is-path-reads
-use Rattle.file_status.proofs.path.path_of.Reads as path-of-reads
-use Rattle.libc.proofs.access.Reads as access-reads
 use mathlib.Core.Path.{sym, subst}
 use Rattle.libc.specs.Io.{Ended}
 use Rattle.file_status.proofs.Names.{path-short, passed, path-ends, no-other}
 
--- src/lib.rt:70:9
 is-path-requires : tie.Need-is-path-requires
 is-path-requires c κs = search needs
 
--- src/lib.rt:71:9
 returns : tie.Need-returns
 returns c = search needs
 
--- src/lib.rt:73:16
 path-of-requires : tie.Need-path-of-requires
 path-of-requires c κs =
     let at-is-path = c .before in
     let name = at-is-path .before .before .args .name .now in
     path-short name (passed name (at-is-path .«is-path» .result) (at-is-path .«is-path» .ensures) (c .if1 .left))
 
--- src/lib.rt:74:5
 access-requires : tie.Need-access-requires
 access-requires c κs =
     let at-else1 = c .before .before in
@@ -35,7 +26,6 @@ access-requires c κs =
     let path = passed name (at-is-path .«is-path» .result) (at-is-path .«is-path» .ensures) (at-else1 .if1 .left) in
     subst Ended (sym (c .before .«path-of» .ensures)) (path-ends name (path-short name path))
 
--- src/lib.rt:67:1
 returns-2 : tie.Need-returns-2
 returns-2 c =
     let at-else1 = c .before .before .before in

@@ -4,8 +4,6 @@ use Rattle.c_answers.specs.Jobs.{ofRead}
 use borrow.Author.Needs.{needs}
 use Rattle.haruseopda.proofs.haru_read.Statement.{statement}
 use Rattle.haruseopda.proofs.haru_read.Tie as tie
-use Rattle.c_answers.proofs.of_read.Reads as of-read-reads
-use Rattle.reading.proofs.read.Reads as read-reads
 
 read-requires : tie.Need-read-requires
 read-requires c κs = search needs

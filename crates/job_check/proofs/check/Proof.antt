@@ -7,12 +7,6 @@ use Rattle.job_check.proofs.Calls.{check-fault, check-short, check-asks
 use borrow.Author.Needs.{needs}
 use Rattle.job_check.proofs.check.Statement.{statement}
 use Rattle.job_check.proofs.check.Tie as tie
-use Rattle.drawing.proofs.draw_into.Reads as draw-into-reads
-use Rattle.jobs.proofs.cells_of.Reads as cells-of-reads
-use Rattle.job_check.proofs.compare.Reads as compare-reads
-use Rattle.jobs.proofs.shortest.Reads as shortest-reads
-use Rattle.jobs.proofs.too_short.Reads as too-short-reads
-use Rattle.reading.proofs.read.Reads as read-reads
 
 read-requires : tie.Need-read-requires
 read-requires c κs = search needs

@@ -8,7 +8,6 @@ use native.Mathlib.Omega.{arith}
 use borrow.Author.Needs.{needs}
 use Rattle.job_check.proofs.compare.Statement.{statement}
 use Rattle.job_check.proofs.compare.Tie as tie
-use Rattle.listing_plunges.proofs.send_listing.Reads as send-listing-reads
 
 slice-aggregate-send-listing : tie.Need-slice-aggregate-send-listing
 slice-aggregate-send-listing c = search needs

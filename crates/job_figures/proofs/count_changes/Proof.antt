@@ -7,10 +7,6 @@ use native.Mathlib.Omega.{arith}
 use borrow.Author.Needs.{needs}
 use Rattle.job_figures.proofs.count_changes.Statement.{statement}
 use Rattle.job_figures.proofs.count_changes.Tie as tie
-use Rattle.job_figures.proofs.count_changes.Reads as reads
-use Rattle.job_figures.proofs.count_changes.Lts as lts
-use Rattle.job_figures.proofs.change.Reads as change-reads
-use Rattle.reading.proofs.nth_plunge.Reads as nth-plunge-reads
 
 abbrev Inv-loop : tie.InvT-loop
 Inv-loop file job plunges before₀ changes₀ i₀ before changes i = Changed file before changes i

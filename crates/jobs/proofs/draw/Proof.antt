@@ -6,10 +6,6 @@ use Rattle.jobs.proofs.Calls.{draw-fault, draw-asks, draw-short, draw-d
 use borrow.Author.Needs.{needs}
 use Rattle.jobs.proofs.draw.Statement.{statement}
 use Rattle.jobs.proofs.draw.Tie as tie
-use Rattle.drawing.proofs.draw_into.Reads as draw-into-reads
-use Rattle.jobs.proofs.cells_of.Reads as cells-of-reads
-use Rattle.jobs.proofs.too_short.Reads as too-short-reads
-use Rattle.reading.proofs.read.Reads as read-reads
 
 read-requires : tie.Need-read-requires
 read-requires c κs = search needs

@@ -3,10 +3,6 @@ use Rattle.jobs.proofs.Calls.{list-refused, list-asks, list-done}
 use borrow.Author.Needs.{needs}
 use Rattle.jobs.proofs.list.Statement.{statement}
 use Rattle.jobs.proofs.list.Tie as tie
-use Rattle.jobs.proofs.shortest.Reads as shortest-reads
-use Rattle.listing.proofs.list_into.Reads as list-into-reads
-use Rattle.refusal.proofs.check_map.Reads as check-map-reads
-use Rattle.refusal.proofs.head_of.Reads as head-of-reads
 
 shortest-requires : tie.Need-shortest-requires
 shortest-requires c κs = search needs

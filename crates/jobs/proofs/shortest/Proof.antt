@@ -4,7 +4,6 @@ use Prim.Native.Nat.{ℕ, min}
 use borrow.Author.Needs.{needs}
 use Rattle.jobs.proofs.shortest.Statement.{statement}
 use Rattle.jobs.proofs.shortest.Tie as tie
-use Rattle.numbers.proofs.smaller.Reads as smaller-reads
 
 smaller-requires : tie.Need-smaller-requires
 smaller-requires c κs = search needs

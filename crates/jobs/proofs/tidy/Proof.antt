@@ -6,12 +6,6 @@ use Rattle.jobs.proofs.Calls.{tidy-fault, draw-asks, tidy-short, tidy-d
 use borrow.Author.Needs.{needs}
 use Rattle.jobs.proofs.tidy.Statement.{statement}
 use Rattle.jobs.proofs.tidy.Tie as tie
-use Rattle.drawing.proofs.draw_into.Reads as draw-into-reads
-use Rattle.jobs.proofs.cells_of.Reads as cells-of-reads
-use Rattle.jobs.proofs.shortest.Reads as shortest-reads
-use Rattle.jobs.proofs.too_short.Reads as too-short-reads
-use Rattle.listing.proofs.list_into.Reads as list-into-reads
-use Rattle.reading.proofs.read.Reads as read-reads
 
 read-requires : tie.Need-read-requires
 read-requires c κs = search needs

@@ -5,12 +5,6 @@ use Prim.Native.Nat.{_-_, _≤_}
 use lib.ListN.{length}
 use Rattle.jobtool.proofs.answer_all.Statement.{statement}
 use Rattle.jobtool.proofs.answer_all.Tie as tie
-use Rattle.jobtool.proofs.answer_all.Reads as reads
-use Rattle.jobtool.proofs.answer_all.Lts as lts
-use Rattle.jobtool.proofs.answer_input.Reads as answer-input-reads
-use Rattle.jobtool.proofs.worse.Reads as worse-reads
-use Rattle.os.proofs.arg_count.Reads as arg-count-reads
-use Rattle.tool_words.proofs.plain_word.Reads as plain-word-reads
 
 abbrev Inv-loop : tie.InvT-loop
 Inv-loop fd about request input₀ out₀ a₀ b₀ c₀ count which₀ number₀ status₀ input out a b c which number status =

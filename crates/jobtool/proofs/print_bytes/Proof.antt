@@ -2,9 +2,6 @@
 use borrow.Author.Needs.{needs}
 use Rattle.jobtool.proofs.print_bytes.Statement.{statement}
 use Rattle.jobtool.proofs.print_bytes.Tie as tie
-use Rattle.jobtool.proofs.print_bytes.Reads as reads
-use Rattle.jobtool.proofs.print_bytes.Lts as lts
-use Rattle.io.proofs.write_all.Reads as write-all-reads
 use Rattle.phrases.proofs.Puts.{counts}
 use native.Mathlib.Omega.{arith}
 

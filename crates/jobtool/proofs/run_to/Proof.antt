@@ -2,16 +2,6 @@
 use borrow.Author.Needs.{needs}
 use Rattle.jobtool.proofs.run_to.Statement.{statement}
 use Rattle.jobtool.proofs.run_to.Tie as tie
-use Rattle.jobtool.proofs.run_to.Reads as reads
-use Rattle.jobtool.proofs.run_to.Lts as lts
-use Rattle.io.proofs.buffer.Reads as buffer-reads
-use Rattle.io.proofs.large_buffer.Reads as large-buffer-reads
-use Rattle.jobtool.proofs.kept_by.Reads as kept-by-reads
-use Rattle.jobtool.proofs.produce.Reads as produce-reads
-use Rattle.jobtool.proofs.worse.Reads as worse-reads
-use Rattle.tool_io.proofs.names.label.Reads as label-reads
-use Rattle.tool_io.proofs.output.close.Reads as close-reads
-use Rattle.tool_io.proofs.output.open.Reads as open-reads
 
 large-buffer-requires : tie.Need-large-buffer-requires
 large-buffer-requires c κs = search needs

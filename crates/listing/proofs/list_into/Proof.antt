@@ -12,47 +12,30 @@ use Rattle.listing.proofs.Files.{stage-writes-not, counted-end, counted
 use borrow.Author.Needs.{needs}
 use Rattle.listing.proofs.list_into.Statement.{statement}
 use Rattle.listing.proofs.list_into.Tie as tie
-use Rattle.listing.proofs.list_into.Reads as reads
-use Rattle.listing.proofs.list_into.Lts as lts
-use Rattle.fields.proofs.place.Reads as place-reads
-use Rattle.fields.proofs.plunge_bytes.Reads as plunge-bytes-reads
-use Rattle.fields.proofs.put_end.Reads as put-end-reads
-use Rattle.fields.proofs.put_head.Reads as put-head-reads
-use Rattle.geometry.proofs.Head.size.Reads as size-reads
-use Rattle.listing.proofs.put_plunges.Reads as put-plunges-reads
-use Rattle.listing_plunges.proofs.send_listing.Reads as send-listing-reads
 
--- src/lib.rt:80:84
 slice-aggregate-send-listing : tie.Need-slice-aggregate-send-listing
 slice-aggregate-send-listing c = search needs
 
--- src/lib.rt:80:9
 send-listing-requires : tie.Need-send-listing-requires
 send-listing-requires c κs =
     let at-start = c .before .before .before .before .before .before .before in
     (at-start .pre, λ e. absurd (stage-writes-not e))
 
--- src/lib.rt:82:26
 place-requires : tie.Need-place-requires
 place-requires c κs = search needs
 
--- src/lib.rt:82:20
 sub-plunges : tie.Need-sub-plunges
 sub-plunges c = search needs
 
--- src/lib.rt:82:73
 size-requires : tie.Need-size-requires
 size-requires c κs = search needs
 
--- src/lib.rt:82:52
 plunge-bytes-requires : tie.Need-plunge-bytes-requires
 plunge-bytes-requires c κs = search needs
 
--- src/lib.rt:82:19
 div-plunges : tie.Need-div-plunges
 div-plunges c = search needs
 
--- src/lib.rt:83:17
 add-bytes : tie.Need-add-bytes
 add-bytes c =
     let at-send-listing = c .before .before .before .before .before .before .before .before in
@@ -66,15 +49,12 @@ add-bytes c =
           (omega (arith, listing-few (given .head) (given .relief .now) (at-start .pre .sides))),
     )
 
--- src/lib.rt:85:9
 same-length : tie.Need-same-length
 same-length c = search needs
 
--- src/lib.rt:85:9
 same-length-2 : tie.Need-same-length-2
 same-length-2 c = search needs
 
--- src/lib.rt:85:9
 returns : tie.Need-returns
 returns c =
     let at-send-listing = c .before .before .before .before .before .before .before .before .before in
@@ -90,11 +70,9 @@ returns c =
       at-send-listing .send-listing .ensures .second,
     )
 
--- src/lib.rt:90:5
 put-head-requires : tie.Need-put-head-requires
 put-head-requires c κs = search needs
 
--- src/lib.rt:91:5
 put-plunges-requires : tie.Need-put-plunges-requires
 put-plunges-requires c κs =
     let at-put-head = c .before .before .before .before .before .before in
@@ -125,23 +103,18 @@ put-plunges-requires c κs =
           (at-send-listing .send-listing .ensures .sent) (omega arith);
     }
 
--- src/lib.rt:92:5
 put-end-requires : tie.Need-put-end-requires
 put-end-requires c κs = search needs
 
--- src/lib.rt:68:1
 same-length-3 : tie.Need-same-length-3
 same-length-3 c = search needs
 
--- src/lib.rt:68:1
 same-length-4 : tie.Need-same-length-4
 same-length-4 c = search needs
 
--- src/lib.rt:68:1
 same-length-5 : tie.Need-same-length-5
 same-length-5 c = search needs
 
--- src/lib.rt:68:1
 returns-2 : tie.Need-returns-2
 returns-2 c =
     let at-put-plunges = c .before .before .before .before .before .before .before .before .before .before in

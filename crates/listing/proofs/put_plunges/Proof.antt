@@ -9,25 +9,16 @@ use Rattle.listing.proofs.Files.{kept-put}
 use borrow.Author.Needs.{needs}
 use Rattle.listing.proofs.put_plunges.Statement.{statement}
 use Rattle.listing.proofs.put_plunges.Tie as tie
-use Rattle.listing.proofs.put_plunges.Reads as reads
-use Rattle.listing.proofs.put_plunges.Lts as lts
-use Rattle.fields.proofs.place.Reads as place-reads
-use Rattle.listing.proofs.copy_stretch.Reads as copy-stretch-reads
-use Rattle.listing_plunges.proofs.send_listing.Reads as send-listing-reads
 
--- src/lib.rt:60:33
 place-requires : tie.Need-place-requires
 place-requires c κs = search needs
 
--- src/lib.rt:60:9
 copy-stretch-requires : tie.Need-copy-stretch-requires
 copy-stretch-requires c κs = search needs
 
--- src/lib.rt:61:9
 same-length : tie.Need-same-length
 same-length c = search needs
 
--- src/lib.rt:61:9
 returns : tie.Need-returns
 returns c =
     let at-place = c .before .before .before in
@@ -42,23 +33,18 @@ returns c =
       kept-none _ _,
     )
 
--- src/lib.rt:63:5
 send-listing-requires : tie.Need-send-listing-requires
 send-listing-requires c κs = search needs
 
--- src/lib.rt:46:1
 same-length-2 : tie.Need-same-length-2
 same-length-2 c = search needs
 
--- src/lib.rt:46:1
 same-length-3 : tie.Need-same-length-3
 same-length-3 c = search needs
 
--- src/lib.rt:46:1
 same-length-4 : tie.Need-same-length-4
 same-length-4 c = search needs
 
--- src/lib.rt:46:1
 returns-2 : tie.Need-returns-2
 returns-2 c = search needs
 

@@ -4,12 +4,6 @@ use native.Mathlib.Omega.{arith}
 use Rattle.listing_plunges.proofs.Marks.{NotedRun, Like, noting, noted-run, noted-at, like-none, like-fits, like-few, like-more, like-stops, like-end, bounded-fits}
 use Rattle.listing_plunges.proofs.compare_marks.Statement.{statement}
 use Rattle.listing_plunges.proofs.compare_marks.Tie as tie
-use Rattle.listing_plunges.proofs.compare_marks.Reads as reads
-use Rattle.listing_plunges.proofs.compare_marks.Lts as lts
-use Rattle.fields.proofs.plunge_bytes.Reads as plunge-bytes-reads
-use Rattle.listing_plunges.proofs.compare_plunge.Reads as compare-plunge-reads
-use Rattle.listing_plunges.proofs.noted_plunge.Reads as noted-plunge-reads
-use Rattle.residue_marks.proofs.note_marks.Reads as note-marks-reads
 
 abbrev Inv-loop : tie.InvT-loop
 Inv-loop size found marks noted file at count place₀ j₀ place j = NotedRun found marks noted count × Like size found marks noted count file at j place
@@ -17,24 +11,20 @@ Inv-loop size found marks noted file at count place₀ j₀ place j = NotedRun f
 abbrev μ-loop : tie.MeasureT-loop
 μ-loop size found marks noted file at count place₀ j₀ place j = count - j
 
--- src/lib.rt:123:9
 note-marks-requires : tie.Need-note-marks-requires Inv-loop μ-loop
 note-marks-requires c κs = noting _ _ _ (c .before .before .pre .0) (c .before .before .pre .2)
 
--- src/lib.rt:126:5
 loop-holds : tie.Need-loop-holds Inv-loop μ-loop
 loop-holds c =
     let at-start = c .before .before .before in
     let n = noted-run _ _ _ _ _ (at-start .pre .0) (at-start .pre .2) (c .note-marks .ensures) in
     (n, like-none _ _ _ _ _ n _ _)
 
--- src/lib.rt:127:13
 noted-plunge-requires : tie.Need-noted-plunge-requires Inv-loop μ-loop
 noted-plunge-requires c κs =
     let at-start = c .before .before .before .before .before .before in
     noted-at (at-start .args .size) _ _ _ _ (c .before .before .loop .inv .0) _ (c .before .loop-test .taken)
 
--- src/lib.rt:128:13
 compare-plunge-requires : tie.Need-compare-plunge-requires Inv-loop μ-loop
 compare-plunge-requires c κs =
     let at-loop = c .before .before .before in
@@ -44,7 +34,6 @@ compare-plunge-requires c κs =
       bounded-fits _ _ (c .noted-plunge .ensures .1),
     )
 
--- src/lib.rt:129:9
 add-place : tie.Need-add-place Inv-loop μ-loop
 add-place c =
     let at-loop-test = c .before .before .before in
@@ -58,11 +47,9 @@ add-place c =
           (at-start .pre .1),
     )
 
--- src/lib.rt:130:16
 plunge-bytes-requires : tie.Need-plunge-bytes-requires Inv-loop μ-loop
 plunge-bytes-requires c κs = search needs
 
--- src/lib.rt:131:13
 returns : tie.Need-returns Inv-loop μ-loop
 returns c =
     let at-noted-plunge = c .before .before .before in
@@ -74,15 +61,12 @@ returns c =
       at-loop .loop .inv .0 .size,
     )
 
--- src/lib.rt:136:9
 add-j : tie.Need-add-j Inv-loop μ-loop
 add-j c = omega arith
 
--- src/lib.rt:126:5
 loop-less : tie.Need-loop-less Inv-loop μ-loop
 loop-less c = omega arith
 
--- src/lib.rt:126:5
 loop-again : tie.Need-loop-again Inv-loop μ-loop
 loop-again c =
     let at-noted-plunge = c .before .before .before in
@@ -94,7 +78,6 @@ loop-again c =
           (omega (arith, c .if1 .left, c .before .plunge-bytes .ensures)),
     )
 
--- src/lib.rt:111:1
 returns-2 : tie.Need-returns-2 Inv-loop μ-loop
 returns-2 c = (
   like-end _ _ _ _ _ (c .before .loop .inv .0) _ _ _ _ (c .before .loop .inv .1) (c .loop-test .left),

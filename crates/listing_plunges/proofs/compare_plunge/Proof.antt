@@ -7,31 +7,21 @@ use native.Mathlib.Omega.{arith}
 use borrow.Author.Needs.{needs}
 use Rattle.listing_plunges.proofs.compare_plunge.Statement.{statement}
 use Rattle.listing_plunges.proofs.compare_plunge.Tie as tie
-use Rattle.listing_plunges.proofs.compare_plunge.Reads as reads
-use Rattle.listing_plunges.proofs.compare_plunge.Lts as lts
-use Rattle.fields.proofs.plunge_bytes.Reads as plunge-bytes-reads
-use Rattle.fields.proofs.put_plunge.Reads as put-plunge-reads
-use Rattle.listing_pass.proofs.common_run.Reads as common-run-reads
 
--- src/lib.rt:106:30
 slice-aggregate-put-plunge : tie.Need-slice-aggregate-put-plunge
 slice-aggregate-put-plunge c = search needs
 
--- src/lib.rt:106:5
 put-plunge-requires : tie.Need-put-plunge-requires
 put-plunge-requires c κs = (omega (arith, field-few (c .before .before .args .size)), c .before .before .pre .1)
 
--- src/lib.rt:107:49
 plunge-bytes-requires : tie.Need-plunge-bytes-requires
 plunge-bytes-requires c κs = search needs
 
--- src/lib.rt:107:40
 array-share-prefix-field : tie.Need-array-share-prefix-field
 array-share-prefix-field c =
     let at-start = c .before .before .before .before .before in
     omega (arith, c .plunge-bytes .ensures, field-few (at-start .args .size))
 
--- src/lib.rt:107:40
 slice-aggregate-common-run : tie.Need-slice-aggregate-common-run
 slice-aggregate-common-run c =
     let at-put-plunge = c .before .before .before in
@@ -46,7 +36,6 @@ slice-aggregate-common-run c =
       field-few (given .size),
     )
 
--- src/lib.rt:107:5
 common-run-requires : tie.Need-common-run-requires
 common-run-requires c κs =
     let at-put-plunge = c .before .before .before in
@@ -61,7 +50,6 @@ common-run-requires c κs =
       at-start .pre .0,
     )
 
--- src/lib.rt:101:1
 returns : tie.Need-returns
 returns c =
     let at-put-plunge = c .before .before .before .before in

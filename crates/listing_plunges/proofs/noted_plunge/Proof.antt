@@ -5,23 +5,16 @@ use native.Mathlib.Omega.{arith}
 use borrow.Author.Needs.{needs}
 use Rattle.listing_plunges.proofs.noted_plunge.Statement.{statement}
 use Rattle.listing_plunges.proofs.noted_plunge.Tie as tie
-use Rattle.listing_plunges.proofs.noted_plunge.Reads as reads
-use Rattle.listing_plunges.proofs.noted_plunge.Lts as lts
-use Rattle.listing_plunges.proofs.plunge_at.Reads as plunge-at-reads
 
--- src/lib.rt:61:13
 mul-i : tie.Need-mul-i
 mul-i c = search needs
 
--- src/lib.rt:61:13
 element-copy-out-i : tie.Need-element-copy-out-i
 element-copy-out-i c = search needs
 
--- src/lib.rt:61:13
 cast-i : tie.Need-cast-i
 cast-i c = search needs
 
--- src/lib.rt:62:22
 add-plunge-at : tie.Need-add-plunge-at
 add-plunge-at c =
     omega (
@@ -31,15 +24,12 @@ add-plunge-at c =
       found-few (c .before .before .args .found) (c .before .before .args .marks .now) (c .before .before .pre .marked),
     )
 
--- src/lib.rt:62:46
 element-copy-out-plunge-at : tie.Need-element-copy-out-plunge-at
 element-copy-out-plunge-at c = search needs
 
--- src/lib.rt:62:5
 plunge-at-requires : tie.Need-plunge-at-requires
 plunge-at-requires c κs = search needs
 
--- src/lib.rt:52:1
 returns : tie.Need-returns
 returns c =
     let at-start = c .before .before .before .before in (

@@ -3,64 +3,51 @@ use native.Mathlib.Omega.{arith}
 use borrow.Author.Needs.{needs}
 use Rattle.listing_plunges.proofs.plunge_at.Statement.{statement}
 use Rattle.listing_plunges.proofs.plunge_at.Tie as tie
-use Rattle.listing_plunges.proofs.plunge_at.Reads as reads
-use Rattle.listing_plunges.proofs.plunge_at.Lts as lts
 
--- src/lib.rt:34:17
 cast-width : tie.Need-cast-width
 cast-width c = search needs
 
--- src/lib.rt:35:17
 cast-place : tie.Need-cast-place
 cast-place c =
     let at-start = c .before .before .before in
     omega (arith, place-few (at-start .args .found) (at-start .args .n) (at-start .pre))
 
--- src/lib.rt:36:20
 rem-column : tie.Need-rem-column
 rem-column c = search needs
 
--- src/lib.rt:36:19
 cast-column : tie.Need-cast-column
 cast-column c =
     let at-start = c .before .before .before in
     let s = place-small (at-start .args .found) (at-start .args .n) (at-start .pre) in
     omega arith
 
--- src/lib.rt:36:46
 cast-column-2 : tie.Need-cast-column-2
 cast-column-2 c = search needs
 
--- src/lib.rt:36:18
 add-column : tie.Need-add-column
 add-column c =
     let at-start = c .before .before .before .before in
     let s = place-small (at-start .args .found) (at-start .args .n) (at-start .pre) in
     omega arith
 
--- src/lib.rt:37:17
 div-row : tie.Need-div-row
 div-row c = search needs
 
--- src/lib.rt:37:16
 cast-row : tie.Need-cast-row
 cast-row c =
     let at-start = c .before .before .before .before in
     let s = place-small (at-start .args .found) (at-start .args .n) (at-start .pre) in
     omega arith
 
--- src/lib.rt:37:43
 cast-row-2 : tie.Need-cast-row-2
 cast-row-2 c = search needs
 
--- src/lib.rt:37:15
 add-row : tie.Need-add-row
 add-row c =
     let at-start = c .before .before .before .before .before in
     let s = place-small (at-start .args .found) (at-start .args .n) (at-start .pre) in
     omega arith
 
--- src/lib.rt:28:1
 returns : tie.Need-returns
 returns c =
     let at-start = c .before .before .before .before .before in

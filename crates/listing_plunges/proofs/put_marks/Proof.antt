@@ -5,12 +5,6 @@ use native.Mathlib.Omega.{arith}
 use Rattle.listing_plunges.proofs.Marks.{NotedRun, Put, noting, noted-run, noted-at, put-none, put-same, put-room, put-more, put-end, bounded-fits}
 use Rattle.listing_plunges.proofs.put_marks.Statement.{statement}
 use Rattle.listing_plunges.proofs.put_marks.Tie as tie
-use Rattle.listing_plunges.proofs.put_marks.Reads as reads
-use Rattle.listing_plunges.proofs.put_marks.Lts as lts
-use Rattle.fields.proofs.plunge_bytes.Reads as plunge-bytes-reads
-use Rattle.fields.proofs.put_plunge.Reads as put-plunge-reads
-use Rattle.listing_plunges.proofs.noted_plunge.Reads as noted-plunge-reads
-use Rattle.residue_marks.proofs.note_marks.Reads as note-marks-reads
 
 abbrev Inv-loop : tie.InvT-loop
 Inv-loop size found marks noted out₀ at count place₀ j₀ out place j = NotedRun found marks noted count × Put size found marks noted count at out₀ j out place
@@ -18,24 +12,20 @@ Inv-loop size found marks noted out₀ at count place₀ j₀ out place j = Note
 abbrev μ-loop : tie.MeasureT-loop
 μ-loop size found marks noted out₀ at count place₀ j₀ out place j = count - j
 
--- src/lib.rt:80:9
 note-marks-requires : tie.Need-note-marks-requires Inv-loop μ-loop
 note-marks-requires c κs = noting _ _ _ (c .before .before .pre .0) (c .before .before .pre .2)
 
--- src/lib.rt:83:5
 loop-holds : tie.Need-loop-holds Inv-loop μ-loop
 loop-holds c =
     let at-start = c .before .before .before in
     let n = noted-run _ _ _ _ _ (at-start .pre .0) (at-start .pre .2) (c .note-marks .ensures) in
     (n, put-none _ _ _ _ _ n _ _)
 
--- src/lib.rt:84:13
 noted-plunge-requires : tie.Need-noted-plunge-requires Inv-loop μ-loop
 noted-plunge-requires c κs =
     let at-start = c .before .before .before .before .before .before in
     noted-at (at-start .args .size) _ _ _ _ (c .before .before .loop .inv .0) _ (c .before .loop-test .taken)
 
--- src/lib.rt:85:9
 put-plunge-requires : tie.Need-put-plunge-requires Inv-loop μ-loop
 put-plunge-requires c κs =
     let at-loop-test = c .before .before .before in
@@ -46,11 +36,9 @@ put-plunge-requires c κs =
       bounded-fits _ _ (c .before .noted-plunge .ensures .1),
     )
 
--- src/lib.rt:86:18
 plunge-bytes-requires : tie.Need-plunge-bytes-requires Inv-loop μ-loop
 plunge-bytes-requires c κs = search needs
 
--- src/lib.rt:86:9
 add-place : tie.Need-add-place Inv-loop μ-loop
 add-place c =
     let at-loop-test = c .before .before .before .before .before .before .before in
@@ -65,15 +53,12 @@ add-place c =
       at-start .pre .1,
     )
 
--- src/lib.rt:87:9
 add-j : tie.Need-add-j Inv-loop μ-loop
 add-j c = omega arith
 
--- src/lib.rt:83:5
 loop-less : tie.Need-loop-less Inv-loop μ-loop
 loop-less c = omega arith
 
--- src/lib.rt:83:5
 loop-again : tie.Need-loop-again Inv-loop μ-loop
 loop-again c =
     let at-put-plunge = c .before .before .before in
@@ -87,13 +72,11 @@ loop-again c =
           (at-put-plunge .put-plunge .ensures) (ap (λ (k : ℕ). at-loop .loop .place + k) (c .plunge-bytes .ensures)),
     )
 
--- src/lib.rt:66:1
 same-length : tie.Need-same-length Inv-loop μ-loop
 same-length c =
     let at-start = c .before .before .before .before .before in
     put-same _ _ _ _ _ (c .before .loop .inv .0) _ _ _ _ _ (c .before .loop .inv .1) (at-start .pre .1)
 
--- src/lib.rt:66:1
 returns : tie.Need-returns Inv-loop μ-loop
 returns c =
     let at-start = c .before .before .before .before .before in

@@ -4,13 +4,7 @@ use Rattle.listing_plunges.proofs.Marks.{none-sent, run-written, run-st
 use borrow.Author.Needs.{needs}
 use Rattle.listing_plunges.proofs.send_run.Statement.{statement}
 use Rattle.listing_plunges.proofs.send_run.Tie as tie
-use Rattle.listing_plunges.proofs.send_run.Reads as reads
-use Rattle.listing_plunges.proofs.send_run.Lts as lts
-use Rattle.listing_plunges.proofs.compare_marks.Reads as compare-marks-reads
-use Rattle.listing_plunges.proofs.put_marks.Reads as put-marks-reads
-use Rattle.listing_plunges.proofs.stage_marks.Reads as stage-marks-reads
 
--- src/lib.rt:181:9
 returns : tie.Need-returns
 returns c =
     let at-start = c .before .before .before .before in
@@ -21,37 +15,29 @@ returns c =
       at-start .pre .1,
     )
 
--- src/lib.rt:187:47
 enum-told : tie.Need-enum-told
 enum-told c = search needs
 
--- src/lib.rt:187:17
 put-marks-requires : tie.Need-put-marks-requires
 put-marks-requires c κs =
     let at-start = c .before .before .before .before .before .before .before .before in
     (at-start .pre .0 .marked, at-start .pre .0 .room (c .before .before .enum-told .given .1), at-start .pre .1)
 
--- src/lib.rt:190:60
 enum-told-2 : tie.Need-enum-told-2
 enum-told-2 c = search needs
 
--- src/lib.rt:190:26
 compare-marks-requires : tie.Need-compare-marks-requires
 compare-marks-requires c κs = search needs
 
--- src/lib.rt:192:49
 enum-told-3 : tie.Need-enum-told-3
 enum-told-3 c = search needs
 
--- src/lib.rt:192:17
 stage-marks-requires : tie.Need-stage-marks-requires
 stage-marks-requires c κs = search needs
 
--- src/lib.rt:166:1
 same-length : tie.Need-same-length
 same-length c = search needs
 
--- src/lib.rt:166:1
 returns-2 : tie.Need-returns-2
 returns-2 c =
     let at-enum-told = c .before .before .before .before .before in
@@ -63,7 +49,6 @@ returns-2 c =
       c .before .before .put-marks .ensures .2,
     )
 
--- src/lib.rt:166:1
 returns-3 : tie.Need-returns-3
 returns-3 c =
     let at-start = c .before .before .before .before .before .before .before .before in (
@@ -72,11 +57,9 @@ returns-3 c =
       c .compare-marks .ensures .1,
     )
 
--- src/lib.rt:166:1
 same-length-2 : tie.Need-same-length-2
 same-length-2 c = search needs
 
--- src/lib.rt:166:1
 returns-4 : tie.Need-returns-4
 returns-4 c =
     let at-enum-told3 = c .before .before .before .before .before in

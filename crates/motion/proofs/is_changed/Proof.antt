@@ -4,7 +4,6 @@ use Rattle.motion.proofs.Calls.{changes-first, changes-later}
 use borrow.Author.Needs.{needs}
 use Rattle.motion.proofs.is_changed.Statement.{statement}
 use Rattle.motion.proofs.is_changed.Tie as tie
-use Rattle.reading.proofs.nth_plunge.Reads as nth-plunge-reads
 
 returns : tie.Need-returns
 returns c = changes-first (c .before .before .args .file .now) (c .before .before .args .i) (c .if1 .taken)

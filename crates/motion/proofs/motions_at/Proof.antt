@@ -6,10 +6,6 @@ use Rattle.motion.proofs.Calls.{not-true, not-false, scale-refused, num
 use borrow.Author.Needs.{needs}
 use Rattle.motion.proofs.motions_at.Statement.{statement}
 use Rattle.motion.proofs.motions_at.Tie as tie
-use Rattle.motion_floats.proofs.in_range.Reads as in-range-reads
-use Rattle.motion.proofs.is_changed.Reads as is-changed-reads
-use Rattle.motion_floats.proofs.motions_of.Reads as motions-of-reads
-use Rattle.reading.proofs.nth_plunge.Reads as nth-plunge-reads
 
 in-range-requires : tie.Need-in-range-requires
 in-range-requires c κs = search needs

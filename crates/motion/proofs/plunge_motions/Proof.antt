@@ -5,8 +5,6 @@ use Rattle.motion.proofs.Calls.{file-refused}
 use borrow.Author.Needs.{needs}
 use Rattle.motion.proofs.plunge_motions.Statement.{statement}
 use Rattle.motion.proofs.plunge_motions.Tie as tie
-use Rattle.motion.proofs.motions_at.Reads as motions-at-reads
-use Rattle.reading.proofs.read.Reads as read-reads
 
 read-requires : tie.Need-read-requires
 read-requires c κs = search needs

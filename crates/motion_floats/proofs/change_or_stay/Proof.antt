@@ -2,7 +2,6 @@
 use borrow.Author.Needs.{needs}
 use Rattle.motion_floats.proofs.change_or_stay.Statement.{statement}
 use Rattle.motion_floats.proofs.change_or_stay.Tie as tie
-use Rattle.motion_floats.proofs.change_width.Reads as change-width-reads
 
 change-width-requires : tie.Need-change-width-requires
 change-width-requires c κs = search needs

@@ -5,7 +5,6 @@ use Rattle.motion_floats.proofs.Literals.{literal-sixteenth}
 use borrow.Author.Needs.{needs}
 use Rattle.motion_floats.proofs.in_range.Statement.{statement}
 use Rattle.motion_floats.proofs.in_range.Tie as tie
-use Rattle.motion_floats.proofs.is_within.Reads as is-within-reads
 
 is-within-requires : tie.Need-is-within-requires
 is-within-requires c κs = search needs

@@ -2,9 +2,6 @@
 use borrow.Author.Needs.{needs}
 use Rattle.motion_floats.proofs.motions_of.Statement.{statement}
 use Rattle.motion_floats.proofs.motions_of.Tie as tie
-use Rattle.motion_floats.proofs.change_or_stay.Reads as change-or-stay-reads
-use Rattle.motion_floats.proofs.travel_to.Reads as travel-to-reads
-use Rattle.sink.proofs.sink_of.Reads as sink-of-reads
 
 change-or-stay-requires : tie.Need-change-or-stay-requires
 change-or-stay-requires c κs = search needs

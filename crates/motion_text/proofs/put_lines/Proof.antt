@@ -2,12 +2,8 @@
 use borrow.Author.Needs.{needs}
 use Rattle.motion_text.proofs.put_lines.Statement.{statement}
 use Rattle.motion_text.proofs.put_lines.Tie as tie
-use Rattle.motion_text.proofs.put_lines.Reads as reads
-use Rattle.motion_text.proofs.put_lines.Lts as lts
 use mathlib.Core.Path.{refl, sym, _∙_}
 use Rattle.motion_text.proofs.Lines.{lines-asks, lines-put, lines-none}
-use Rattle.motion.proofs.motions_at.Reads as motions-at-reads
-use Rattle.motion_text.proofs.put_three.Reads as put-three-reads
 
 motions-at-requires : tie.Need-motions-at-requires
 motions-at-requires c κs = search needs

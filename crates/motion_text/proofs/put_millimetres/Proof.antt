@@ -2,12 +2,9 @@
 use borrow.Author.Needs.{needs}
 use Rattle.motion_text.proofs.put_millimetres.Statement.{statement}
 use Rattle.motion_text.proofs.put_millimetres.Tie as tie
-use Rattle.motion_text.proofs.put_millimetres.Reads as reads
-use Rattle.motion_text.proofs.put_millimetres.Lts as lts
 use Rattle.phrases.proofs.Puts.{puts-length}
 use Rattle.motion_text.specs.Lines.{millimetres}
 use Rattle.motion_text.proofs.Lines.{millimetres-put}
-use Rattle.decimal_text.proofs.put_number.Reads as put-number-reads
 
 slice-write-page : tie.Need-slice-write-page
 slice-write-page c = search needs

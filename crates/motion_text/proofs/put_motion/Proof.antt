@@ -2,17 +2,12 @@
 use borrow.Author.Needs.{needs}
 use Rattle.motion_text.proofs.put_motion.Statement.{statement}
 use Rattle.motion_text.proofs.put_motion.Tie as tie
-use Rattle.motion_text.proofs.put_motion.Reads as reads
-use Rattle.motion_text.proofs.put_motion.Lts as lts
 use mathlib.Core.Path.{sym, subst}
 use Prim.Native.Nat.{_+_, _≤_}
 use lib.ListN.{length}
 use Rattle.numerals.specs.Numerals.{Puts}
 use Rattle.motion_floats.specs.declared.Motion.{Motion}
 use Rattle.motion_text.specs.Lines.{motionLine}
-use Rattle.motion_text.proofs.put_one.Reads as put-one-reads
-use Rattle.motion_text.proofs.put_travel.Reads as put-travel-reads
-use Rattle.phrases.proofs.put_bytes.Reads as put-bytes-reads
 
 enum-known-motion : tie.Need-enum-known-motion
 enum-known-motion c = search needs

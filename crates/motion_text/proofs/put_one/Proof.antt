@@ -2,14 +2,10 @@
 use borrow.Author.Needs.{needs}
 use Rattle.motion_text.proofs.put_one.Statement.{statement}
 use Rattle.motion_text.proofs.put_one.Tie as tie
-use Rattle.motion_text.proofs.put_one.Reads as reads
-use Rattle.motion_text.proofs.put_one.Lts as lts
-use mathlib.Core.List.{List, [], _∷_, _++_}
+use mathlib.Core.List.{List, [], _∷_}
 use Prim.Native.Nat.{ℕ}
 use Rattle.motion_text.specs.Lines.{millimetres}
 use Rattle.phrases.proofs.Puts.{room-1, room-2, room-3, three-texts}
-use Rattle.motion_text.proofs.put_millimetres.Reads as put-millimetres-reads
-use Rattle.phrases.proofs.put_bytes.Reads as put-bytes-reads
 
 put-bytes-requires : tie.Need-put-bytes-requires
 put-bytes-requires c κs =

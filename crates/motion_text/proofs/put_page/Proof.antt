@@ -1,17 +1,12 @@
 -- `put_page` puts the lines of plunge after plunge, as long as there is room.
-use borrow.Author.Needs.{needs}
 use Rattle.motion_text.proofs.put_page.Statement.{statement}
 use Rattle.motion_text.proofs.put_page.Tie as tie
-use Rattle.motion_text.proofs.put_page.Reads as reads
-use Rattle.motion_text.proofs.put_page.Lts as lts
-use mathlib.Core.Path.{_∙_}
 use native.Mathlib.Omega.{arith}
-use Prim.Native.Nat.{_+_, _-_}
+use Prim.Native.Nat.{_-_}
 use Rattle.reading.specs.Reading.{total}
 use Rattle.motion_text.specs.Lines.{linesAt, linesRoom}
 use Rattle.phrases.proofs.Puts.{counts}
 use Rattle.text.proofs.Pages.{Filled, filled-none, filled-more, filled-page}
-use Rattle.motion_text.proofs.put_lines.Reads as put-lines-reads
 
 abbrev Inv-loop : tie.InvT-loop
 Inv-loop page₀ file job scale from plunges used₀ next₀ page used next = Filled (linesAt file scale) (total file) from page₀ page used next

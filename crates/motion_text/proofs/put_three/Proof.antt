@@ -2,13 +2,8 @@
 use borrow.Author.Needs.{needs}
 use Rattle.motion_text.proofs.put_three.Statement.{statement}
 use Rattle.motion_text.proofs.put_three.Tie as tie
-use Rattle.motion_text.proofs.put_three.Reads as reads
-use Rattle.motion_text.proofs.put_three.Lts as lts
-use mathlib.Core.List.{List, [], _∷_, _++_}
-use Prim.Native.Nat.{ℕ}
 use Rattle.motion_text.specs.Lines.{motionLine}
 use Rattle.phrases.proofs.Puts.{room-1, room-2, room-3, three-texts}
-use Rattle.motion_text.proofs.put_motion.Reads as put-motion-reads
 
 put-motion-requires : tie.Need-put-motion-requires
 put-motion-requires c κs =

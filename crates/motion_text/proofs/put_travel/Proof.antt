@@ -2,14 +2,10 @@
 use borrow.Author.Needs.{needs}
 use Rattle.motion_text.proofs.put_travel.Statement.{statement}
 use Rattle.motion_text.proofs.put_travel.Tie as tie
-use Rattle.motion_text.proofs.put_travel.Reads as reads
-use Rattle.motion_text.proofs.put_travel.Lts as lts
 use mathlib.Core.List.{List, [], _∷_, _++_}
 use Prim.Native.Nat.{ℕ}
 use Rattle.motion_text.specs.Lines.{millimetres, travelWord}
 use Rattle.phrases.proofs.Puts.{first-room, next-room, two-texts, room-1, room-2, room-3, three-texts}
-use Rattle.motion_text.proofs.put_millimetres.Reads as put-millimetres-reads
-use Rattle.phrases.proofs.put_bytes.Reads as put-bytes-reads
 
 slice-aggregate-put-bytes : tie.Need-slice-aggregate-put-bytes
 slice-aggregate-put-bytes c = search needs

@@ -1,5 +1,4 @@
 -- `digit_count` cuts a digit off until one is left.
-use borrow.Author.Needs.{needs}
 use Rattle.numerals.proofs.digit_count.Statement.{statement}
 use Rattle.numerals.proofs.digit_count.Tie as tie
 use mathlib.Core.Path.{sym}

@@ -1,7 +1,6 @@
 -- `put_digits` writes the last digit first.
 use Rattle.numerals.proofs.put_digits.Statement.{statement}
 use Rattle.numerals.proofs.put_digits.Tie as tie
-use Rattle.numerals.proofs.digit_byte.Reads as digit-byte-reads
 use mathlib.Core.Path.{_≡_, refl, _∙_}
 use Prim.Native.Nat.{_≤_}
 use native.Mathlib.Nat.{mod-lt}

@@ -2,10 +2,6 @@
 use borrow.Author.Needs.{needs}
 use Rattle.numerals.proofs.put_numeral.Statement.{statement}
 use Rattle.numerals.proofs.put_numeral.Tie as tie
-use Rattle.numerals.proofs.put_numeral.Reads as reads
-use Rattle.numerals.proofs.put_numeral.Lts as lts
-use Rattle.numerals.proofs.digit_count.Reads as digit-count-reads
-use Rattle.numerals.proofs.put_digits.Reads as put-digits-reads
 use mathlib.Core.Path.{sym, ap, _∙_}
 use native.Mathlib.Omega.{arith}
 use lib.Dec.{lit≤}
@@ -13,11 +9,9 @@ use Prim.Native.Nat.{ℕ, _+_}
 use Rattle.fields.specs.Writing.{spliced}
 use Rattle.numerals.proofs.Sizes.{numeral-digits, numeral-size}
 
--- src/lib.rt:52:9
 digit-count-requires : tie.Need-digit-count-requires
 digit-count-requires c κs = search needs
 
--- src/lib.rt:53:5
 put-digits-requires : tie.Need-put-digits-requires
 put-digits-requires c κs =
     let at-digit-count = c .before in
@@ -25,7 +19,6 @@ put-digits-requires c κs =
     let l = at-digit-count .digit-count .ensures in
     (lit≤ tt, lit≤ tt, omega (arith, l))
 
--- src/lib.rt:54:5
 add-result : tie.Need-add-result
 add-result c =
     let at-digit-count = c .before .before .before .before in
@@ -33,11 +26,9 @@ add-result c =
     let l = at-digit-count .digit-count .ensures in
     omega (arith, l)
 
--- src/lib.rt:48:1
 same-length : tie.Need-same-length
 same-length c = search needs
 
--- src/lib.rt:48:1
 returns : tie.Need-returns
 returns c =
     let at-digit-count = c .before .before .before .before in

@@ -7,10 +7,6 @@ use lib.Seq.{length-take-le}
 use Rattle.phrases.proofs.Appends.{appended, appends-put}
 use Rattle.phrases.proofs.append.Statement.{statement}
 use Rattle.phrases.proofs.append.Tie as tie
-use Rattle.phrases.proofs.append.Reads as reads
-use Rattle.phrases.proofs.append.Lts as lts
-use Rattle.numbers.proofs.smaller.Reads as smaller-reads
-use Rattle.phrases.proofs.put_bytes.Reads as put-bytes-reads
 
 sub-smaller : tie.Need-sub-smaller
 sub-smaller c = search needs

@@ -4,11 +4,6 @@ use mathlib.Core.Path.{sym, subst, _∙_}
 use Rattle.phrases.proofs.Appends.{Appended, shown-plain, shown-octal}
 use Rattle.phrases.proofs.append_byte.Statement.{statement}
 use Rattle.phrases.proofs.append_byte.Tie as tie
-use Rattle.phrases.proofs.append_byte.Reads as reads
-use Rattle.phrases.proofs.append_byte.Lts as lts
-use Rattle.phrases.proofs.append.Reads as append-reads
-use Rattle.phrases.proofs.is_plain.Reads as is-plain-reads
-use Rattle.phrases.proofs.octal.Reads as octal-reads
 
 is-plain-requires : tie.Need-is-plain-requires
 is-plain-requires c κs = search needs

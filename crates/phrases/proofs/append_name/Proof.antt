@@ -5,9 +5,6 @@ use native.Mathlib.Omega.{arith}
 use lib.ListN.{length}
 use Rattle.phrases.proofs.Appends.{Shown, shown-none, shown-more, shown-all}
 use Rattle.phrases.proofs.append_name.Tie as tie
-use Rattle.phrases.proofs.append_name.Reads as reads
-use Rattle.phrases.proofs.append_name.Lts as lts
-use Rattle.phrases.proofs.append_byte.Reads as append-byte-reads
 
 abbrev Inv-loop : tie.InvT-loop
 Inv-loop page₀ at name end₀ i₀ page end i = Shown page₀ at name page end i

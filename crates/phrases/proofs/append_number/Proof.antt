@@ -9,10 +9,6 @@ use Rattle.phrases.proofs.Puts.{puts-length}
 use Rattle.phrases.proofs.Appends.{Appended, put-taken}
 use Rattle.phrases.proofs.append_number.Statement.{statement}
 use Rattle.phrases.proofs.append_number.Tie as tie
-use Rattle.phrases.proofs.append_number.Reads as reads
-use Rattle.phrases.proofs.append_number.Lts as lts
-use Rattle.numerals.proofs.put_numeral.Reads as put-numeral-reads
-use Rattle.phrases.proofs.append.Reads as append-reads
 
 slice-aggregate-put-numeral : tie.Need-slice-aggregate-put-numeral
 slice-aggregate-put-numeral c = search needs

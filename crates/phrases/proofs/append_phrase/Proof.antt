@@ -3,10 +3,6 @@ use borrow.Author.Needs.{needs}
 use Rattle.phrases.proofs.Appends.{appended-then}
 use Rattle.phrases.proofs.append_phrase.Statement.{statement}
 use Rattle.phrases.proofs.append_phrase.Tie as tie
-use Rattle.phrases.proofs.append_phrase.Reads as reads
-use Rattle.phrases.proofs.append_phrase.Lts as lts
-use Rattle.phrases.proofs.append.Reads as append-reads
-use Rattle.phrases.proofs.append_number.Reads as append-number-reads
 
 append-requires : tie.Need-append-requires
 append-requires c κs = search needs

@@ -2,8 +2,6 @@
 use Rattle.phrases.proofs.is_plain.Statement.{statement}
 use borrow.Author.Tests.{lt-ltb, le-ltb, eq-eqb, ne-eqb}
 use Rattle.phrases.proofs.is_plain.Tie as tie
-use Rattle.phrases.proofs.is_plain.Reads as reads
-use Rattle.phrases.proofs.is_plain.Lts as lts
 
 returns : tie.Need-returns
 returns c = simp (lt-ltb _ _ (c .if1 .taken))

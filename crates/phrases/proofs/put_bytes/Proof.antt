@@ -2,8 +2,6 @@
 use borrow.Author.Needs.{needs}
 use Rattle.phrases.proofs.put_bytes.Statement.{statement}
 use Rattle.phrases.proofs.put_bytes.Tie as tie
-use Rattle.phrases.proofs.put_bytes.Reads as reads
-use Rattle.phrases.proofs.put_bytes.Lts as lts
 use Prim.Native.Nat.{_-_}
 use native.Mathlib.Omega.{arith}
 use lib.ListN.{length}

@@ -2,12 +2,8 @@
 use borrow.Author.Needs.{needs}
 use Rattle.printing.proofs.print_file.Statement.{statement}
 use Rattle.printing.proofs.print_file.Tie as tie
-use Rattle.printing.proofs.print_file.Reads as reads
-use Rattle.printing.proofs.print_file.Lts as lts
 use mathlib.Core.Path.{sym, _∙_}
 use Rattle.reading.proofs.Answers.{read-accepted}
-use Rattle.printing.proofs.print_job.Reads as print-job-reads
-use Rattle.reading.proofs.read.Reads as read-reads
 
 read-requires : tie.Need-read-requires
 read-requires c κs = search needs

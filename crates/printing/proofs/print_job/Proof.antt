@@ -2,8 +2,6 @@
 use borrow.Author.Needs.{needs}
 use Rattle.printing.proofs.print_job.Statement.{statement}
 use Rattle.printing.proofs.print_job.Tie as tie
-use Rattle.printing.proofs.print_job.Reads as reads
-use Rattle.printing.proofs.print_job.Lts as lts
 use mathlib.Core.Path.{_≡_}
 use Prim.Native.Nat.{_-_, _≤_}
 use native.Mathlib.Omega.{arith}
@@ -12,9 +10,6 @@ use Rattle.text.specs.Pages.{lineAt, lineCount}
 use Rattle.text_lines.specs.Text.{lineRoom}
 use Rattle.reading.proofs.Answers.{total-few}
 use Rattle.text.proofs.Pages.{page-goes-on}
-use Rattle.io.proofs.large_buffer.Reads as large-buffer-reads
-use Rattle.io.proofs.write_all.Reads as write-all-reads
-use Rattle.text.proofs.put_page.Reads as put-page-reads
 
 abbrev Inv-loop : tie.InvT-loop
 Inv-loop fd file job plunges page₀ next₀ page next = (next ≤ lineCount file) × (65536 ≡ length page)

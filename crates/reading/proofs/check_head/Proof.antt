@@ -4,26 +4,16 @@ use Rattle.reading.proofs.Steps.{head-room, head-plate, head-fault}
 use borrow.Author.Needs.{needs}
 use Rattle.reading.proofs.check_head.Statement.{statement}
 use Rattle.reading.proofs.check_head.Tie as tie
-use Rattle.reading.proofs.check_head.Reads as reads
-use Rattle.reading.proofs.check_head.Lts as lts
-use Rattle.reading.proofs.check_plate.Reads as check-plate-reads
-use Rattle.reading.proofs.wide.Reads as wide-reads
-use Rattle.reading_fields.proofs.check_open.Reads as check-open-reads
-use Rattle.reading_fields.proofs.head_opening.Reads as head-opening-reads
 
--- src/lib.rt:70:9
 head-opening-requires : tie.Need-head-opening-requires
 head-opening-requires c κs = search needs
 
--- src/lib.rt:71:9
 check-open-requires : tie.Need-check-open-requires
 check-open-requires c κs = search needs
 
--- src/lib.rt:73:42
 enum-told : tie.Need-enum-told
 enum-told c = search needs
 
--- src/lib.rt:73:42
 shared-slice-read-check-plate : tie.Need-shared-slice-read-check-plate
 shared-slice-read-check-plate c =
     let at-check-open = c .before .before .before in
@@ -35,7 +25,6 @@ shared-slice-read-check-plate c =
           (at-check-open .check-open .ensures) (c .before .enum-told .given .1),
     )
 
--- src/lib.rt:73:56
 shared-slice-read-wide : tie.Need-shared-slice-read-wide
 shared-slice-read-wide c =
     let at-check-open = c .before .before .before .before in
@@ -47,11 +36,9 @@ shared-slice-read-wide c =
           (at-check-open .check-open .ensures) (c .before .before .enum-told .given .1),
     )
 
--- src/lib.rt:73:51
 wide-requires : tie.Need-wide-requires
 wide-requires c κs = search needs
 
--- src/lib.rt:73:71
 shared-slice-read-wide-2 : tie.Need-shared-slice-read-wide-2
 shared-slice-read-wide-2 c =
     let at-enum-told = c .before .before .before .before in
@@ -64,19 +51,15 @@ shared-slice-read-wide-2 c =
           (at-check-open .check-open .ensures) (at-enum-told .enum-told .given .1),
     )
 
--- src/lib.rt:73:66
 wide-requires-2 : tie.Need-wide-requires-2
 wide-requires-2 c κs = search needs
 
--- src/lib.rt:73:30
 check-plate-requires : tie.Need-check-plate-requires
 check-plate-requires c κs = search needs
 
--- src/lib.rt:74:26
 enum-known-opening : tie.Need-enum-known-opening
 enum-known-opening c = search needs
 
--- src/lib.rt:67:1
 returns : tie.Need-returns
 returns c =
     let at-wide = c .before .before .before in
@@ -88,7 +71,6 @@ returns c =
     (at-start .args .file .now) _ (at-head-opening .head-opening .ensures) _ (at-check-open .check-open .ensures)
     (at-enum-told .enum-told .given .1)
 
--- src/lib.rt:67:1
 returns-2 : tie.Need-returns-2
 returns-2 c =
     let at-check-open = c .before .before .before in

@@ -10,36 +10,24 @@ use Rattle.reading.proofs.Steps.{read-here, read-fits, read-depth, plun
 use borrow.Author.Needs.{needs}
 use Rattle.reading.proofs.check_plunge.Statement.{statement}
 use Rattle.reading.proofs.check_plunge.Tie as tie
-use Rattle.reading.proofs.check_plunge.Reads as reads
-use Rattle.reading.proofs.check_plunge.Lts as lts
-use Rattle.geometry.proofs.Head.size.Reads as size-reads
-use Rattle.geometry.proofs.Plunge.fits_plate.Reads as fits-plate-reads
-use Rattle.reading.proofs.plunge_at.Reads as plunge-at-reads
-use Rattle.refusal.proofs.refuse.Reads as refuse-reads
 
--- src/lib.rt:163:27
 size-requires : tie.Need-size-requires
 size-requires c κs = search needs
 
--- src/lib.rt:163:9
 plunge-at-requires : tie.Need-plunge-at-requires
 plunge-at-requires c κs =
     subst (λ (s : Size). c .before .before .args .at + plungeBytes s ≤ length (c .before .before .args .file .now))
     (sym (c .size .ensures)) (c .before .before .pre .0)
 
--- src/lib.rt:165:31
 enum-known-maybe : tie.Need-enum-known-maybe
 enum-known-maybe c = search needs
 
--- src/lib.rt:166:16
 fits-plate-requires : tie.Need-fits-plate-requires
 fits-plate-requires c κs = search needs
 
--- src/lib.rt:168:21
 refuse-requires : tie.Need-refuse-requires
 refuse-requires c κs = search needs
 
--- src/lib.rt:168:21
 returns : tie.Need-returns
 returns c =
     let at-if1 = c .before .before .before in
@@ -56,7 +44,6 @@ returns c =
     (read-fits (given .head) (given .file .now) (given .at) _ _ _ is (at-fits-plate .fits-plate .ensures)
     (at-if1 .if1 .taken)) (read-depth (given .head) (given .file .now) (given .at) _ is ∙ c .before .if2 .taken)
 
--- src/lib.rt:170:17
 returns-2 : tie.Need-returns-2
 returns-2 c =
     let at-fits-plate = c .before .before .before in
@@ -73,19 +60,15 @@ returns-2 c =
     (c .before .before .if1 .taken))
     (λ e. c .if2 .left (sym (read-depth (given .head) (given .file .now) (given .at) _ is) ∙ e))
 
--- src/lib.rt:172:13
 refuse-requires-2 : tie.Need-refuse-requires-2
 refuse-requires-2 c κs = search needs
 
--- src/lib.rt:174:34
 enum-told : tie.Need-enum-told
 enum-told c = search needs
 
--- src/lib.rt:174:34
 refuse-requires-3 : tie.Need-refuse-requires-3
 refuse-requires-3 c κs = search needs
 
--- src/lib.rt:159:1
 returns-3 : tie.Need-returns-3
 returns-3 c =
     let at-maybe = c .before .before .before .before in
@@ -100,7 +83,6 @@ returns-3 c =
     (read-fits (given .head) (given .file .now) (given .at) _ _ _ is (c .before .before .fits-plate .ensures)
     (c .before .if1 .left))
 
--- src/lib.rt:159:1
 returns-4 : tie.Need-returns-4
 returns-4 c =
     let at-plunge-at = c .before .before .before in

@@ -3,23 +3,13 @@ use Rattle.reading.proofs.Steps.{contained-plunge, contained-end, end-t
 use borrow.Author.Needs.{needs}
 use Rattle.reading.proofs.content_at.Statement.{statement}
 use Rattle.reading.proofs.content_at.Tie as tie
-use Rattle.reading.proofs.content_at.Reads as reads
-use Rattle.reading.proofs.content_at.Lts as lts
-use Rattle.reading.proofs.after.Reads as after-reads
-use Rattle.reading.proofs.check_plunge.Reads as check-plunge-reads
-use Rattle.reading_fields.proofs.check_end.Reads as check-end-reads
-use Rattle.reading_fields.proofs.end_opening.Reads as end-opening-reads
-use Rattle.reading_fields.proofs.opens.Reads as opens-reads
 
--- src/lib.rt:195:40
 end-opening-requires : tie.Need-end-opening-requires
 end-opening-requires c κs = search needs
 
--- src/lib.rt:195:8
 opens-requires : tie.Need-opens-requires
 opens-requires c κs = search needs
 
--- src/lib.rt:196:35
 check-end-requires : tie.Need-check-end-requires
 check-end-requires c κs =
     let at-start = c .before .before .before .before in
@@ -28,11 +18,9 @@ check-end-requires c κs =
     (end-told (given .file .now) (given .at) _ _ _ (c .before .before .end-opening .ensures) (c .before .opens .ensures)
     (c .if1 .taken))
 
--- src/lib.rt:196:9
 after-requires : tie.Need-after-requires
 after-requires c κs = search needs
 
--- src/lib.rt:196:9
 returns : tie.Need-returns
 returns c =
     let at-opens = c .before .before .before in
@@ -43,7 +31,6 @@ returns c =
     (end-told (given .file .now) (given .at) _ _ _ (at-end-opening .end-opening .ensures) (at-opens .opens .ensures)
     (c .before .before .if1 .taken)) (c .before .check-end .ensures)
 
--- src/lib.rt:198:25
 check-plunge-requires : tie.Need-check-plunge-requires
 check-plunge-requires c κs =
     let at-start = c .before .before .before .before in
@@ -54,11 +41,9 @@ check-plunge-requires c κs =
       at-start .pre .1,
     )
 
--- src/lib.rt:198:5
 after-requires-2 : tie.Need-after-requires-2
 after-requires-2 c κs = search needs
 
--- src/lib.rt:191:1
 returns-2 : tie.Need-returns-2
 returns-2 c =
     let at-opens = c .before .before .before in

@@ -5,40 +5,25 @@ use Rattle.reading.proofs.Steps.{field-opened, field-room, field-conten
 use borrow.Author.Needs.{needs}
 use Rattle.reading.proofs.field_at.Statement.{statement}
 use Rattle.reading.proofs.field_at.Tie as tie
-use Rattle.reading.proofs.field_at.Reads as reads
-use Rattle.reading.proofs.field_at.Lts as lts
-use Rattle.fields.proofs.place.Reads as place-reads
-use Rattle.geometry.proofs.Head.size.Reads as size-reads
-use Rattle.reading.proofs.content_at.Reads as content-at-reads
-use Rattle.reading_fields.proofs.check_open.Reads as check-open-reads
-use Rattle.reading_fields.proofs.end_opening.Reads as end-opening-reads
-use Rattle.reading_fields.proofs.plunge_opening.Reads as plunge-opening-reads
 
--- src/lib.rt:208:9
 place-requires : tie.Need-place-requires
 place-requires c κs = search needs
 
--- src/lib.rt:209:49
 size-requires : tie.Need-size-requires
 size-requires c κs = search needs
 
--- src/lib.rt:209:9
 plunge-opening-requires : tie.Need-plunge-opening-requires
 plunge-opening-requires c κs = search needs
 
--- src/lib.rt:210:9
 end-opening-requires : tie.Need-end-opening-requires
 end-opening-requires c κs = search needs
 
--- src/lib.rt:211:9
 check-open-requires : tie.Need-check-open-requires
 check-open-requires c κs = search needs
 
--- src/lib.rt:213:30
 enum-told : tie.Need-enum-told
 enum-told c = search needs
 
--- src/lib.rt:213:30
 content-at-requires : tie.Need-content-at-requires
 content-at-requires c κs =
     let at-end-opening = c .before .before .before in
@@ -55,11 +40,9 @@ content-at-requires c κs =
       at-start .pre .1,
     )
 
--- src/lib.rt:214:26
 enum-known-opening : tie.Need-enum-known-opening
 enum-known-opening c = search needs
 
--- src/lib.rt:204:1
 returns : tie.Need-returns
 returns c =
     let at-check-open = c .before .before .before in
@@ -75,7 +58,6 @@ returns c =
     (at-plunge-opening .plunge-opening .ensures) (at-end-opening .end-opening .ensures) (at-size .size .ensures)
     (at-check-open .check-open .ensures)) (c .before .enum-told .given .1)
 
--- src/lib.rt:204:1
 returns-2 : tie.Need-returns-2
 returns-2 c =
     let at-check-open = c .before .before .before in

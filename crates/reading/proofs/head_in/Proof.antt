@@ -4,41 +4,30 @@ use native.Mathlib.Omega.{arith}
 use borrow.Author.Needs.{needs}
 use Rattle.reading.proofs.head_in.Statement.{statement}
 use Rattle.reading.proofs.head_in.Tie as tie
-use Rattle.reading.proofs.head_in.Reads as reads
-use Rattle.reading.proofs.head_in.Lts as lts
-use Rattle.reading.proofs.wide.Reads as wide-reads
-use Rattle.refusal.proofs.head_of.Reads as head-of-reads
 
--- src/lib.rt:84:22
 shared-slice-read-head-of : tie.Need-shared-slice-read-head-of
 shared-slice-read-head-of c =
     omega (arith, head-right (c .before .before .args .file .now) (c .before .before .pre) .room)
 
--- src/lib.rt:84:36
 shared-slice-read-wide : tie.Need-shared-slice-read-wide
 shared-slice-read-wide c =
     let at-start = c .before .before .before in
     omega (arith, head-right (at-start .args .file .now) (at-start .pre) .room)
 
--- src/lib.rt:84:31
 wide-requires : tie.Need-wide-requires
 wide-requires c κs = search needs
 
--- src/lib.rt:84:51
 shared-slice-read-wide-2 : tie.Need-shared-slice-read-wide-2
 shared-slice-read-wide-2 c =
     let at-start = c .before .before .before .before .before in
     omega (arith, head-right (at-start .args .file .now) (at-start .pre) .room)
 
--- src/lib.rt:84:46
 wide-requires-2 : tie.Need-wide-requires-2
 wide-requires-2 c κs = search needs
 
--- src/lib.rt:84:5
 head-of-requires : tie.Need-head-of-requires
 head-of-requires c κs = search needs
 
--- src/lib.rt:80:1
 returns : tie.Need-returns
 returns c =
     let at-wide = c .before .before .before in

@@ -9,17 +9,10 @@ use Rattle.reading.proofs.Answers.{plunge-asks, found-plunge, no-plunge
 use borrow.Author.Needs.{needs}
 use Rattle.reading.proofs.nth_plunge.Statement.{statement}
 use Rattle.reading.proofs.nth_plunge.Tie as tie
-use Rattle.reading.proofs.nth_plunge.Reads as reads
-use Rattle.reading.proofs.nth_plunge.Lts as lts
-use Rattle.fields.proofs.place.Reads as place-reads
-use Rattle.geometry.proofs.Head.size.Reads as size-reads
-use Rattle.reading.proofs.plunge_at.Reads as plunge-at-reads
 
--- src/lib.rt:146:27
 size-requires : tie.Need-size-requires
 size-requires c κs = search needs
 
--- src/lib.rt:146:46
 place-requires : tie.Need-place-requires
 place-requires c κs =
     let at-start = c .before .before .before in
@@ -30,7 +23,6 @@ place-requires c κs =
       ap (λ (h : Head). place h (given .i)) (at-start .pre .0 .head),
     )
 
--- src/lib.rt:146:9
 plunge-at-requires : tie.Need-plunge-at-requires
 plunge-at-requires c κs =
     let at-start = c .before .before .before .before in
@@ -44,15 +36,12 @@ plunge-at-requires c κs =
       ap (λ (h : Head). plungeBytes (sizeOf h)) (at-start .pre .0 .head),
     )
 
--- src/lib.rt:148:31
 enum-known-found : tie.Need-enum-known-found
 enum-known-found c = search needs
 
--- src/lib.rt:152:20
 enum-told : tie.Need-enum-told
 enum-told c = search needs
 
--- src/lib.rt:141:1
 returns : tie.Need-returns
 returns c =
     let at-plunge-at = c .before .before .before in
@@ -65,7 +54,6 @@ returns c =
     (sym (c .before .found .given .1) ∙ at-plunge-at .plunge-at .ensures ∙ nth-field (given .file .now) (given .i) _ _ _
     (at-start .pre .0 .head) (at-size .size .ensures) (at-place .place .ensures))
 
--- src/lib.rt:141:1
 returns-2 : tie.Need-returns-2
 returns-2 c =
     let at-place = c .before .before .before in

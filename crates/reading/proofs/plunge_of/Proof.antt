@@ -3,23 +3,16 @@ use Rattle.reading.proofs.Steps.{plunge-read, plunge-none}
 use borrow.Author.Needs.{needs}
 use Rattle.reading.proofs.plunge_of.Statement.{statement}
 use Rattle.reading.proofs.plunge_of.Tie as tie
-use Rattle.reading.proofs.plunge_of.Reads as reads
-use Rattle.reading.proofs.plunge_of.Lts as lts
-use Rattle.geometry.proofs.Reach.read.Reads as read-reads
 
--- src/lib.rt:91:9
 read-requires : tie.Need-read-requires
 read-requires c κs = search needs
 
--- src/lib.rt:93:29
 enum-known-maybe : tie.Need-enum-known-maybe
 enum-known-maybe c = search needs
 
--- src/lib.rt:99:32
 enum-told : tie.Need-enum-told
 enum-told c = search needs
 
--- src/lib.rt:88:1
 returns : tie.Need-returns
 returns c =
     let at-read = c .before .before .before in
@@ -28,7 +21,6 @@ returns c =
     plunge-read (given .column) (given .row) (given .reach) (given .depth) _
     (sym (at-read .read .ensures) ∙ c .before .maybe .given .1)
 
--- src/lib.rt:88:1
 returns-2 : tie.Need-returns-2
 returns-2 c =
     let at-start = c .before .before .before in

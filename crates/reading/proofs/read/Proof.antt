@@ -3,25 +3,16 @@ use mathlib.Core.Path.{sym, _∙_}
 use borrow.Author.Needs.{needs}
 use Rattle.reading.proofs.read.Statement.{statement}
 use Rattle.reading.proofs.read.Tie as tie
-use Rattle.reading.proofs.read.Reads as reads
-use Rattle.reading.proofs.read.Lts as lts
-use Rattle.reading.proofs.check_head.Reads as check-head-reads
-use Rattle.reading.proofs.head_in.Reads as head-in-reads
-use Rattle.reading.proofs.read_fields.Reads as read-fields-reads
 
--- src/lib.rt:251:9
 check-head-requires : tie.Need-check-head-requires
 check-head-requires c κs = search needs
 
--- src/lib.rt:253:48
 enum-told : tie.Need-enum-told
 enum-told c = search needs
 
--- src/lib.rt:253:48
 head-in-requires : tie.Need-head-in-requires
 head-in-requires c κs = sym (c .before .before .check-head .ensures) ∙ c .enum-told .given .1
 
--- src/lib.rt:253:30
 read-fields-requires : tie.Need-read-fields-requires
 read-fields-requires c κs =
     let at-check-head = c .before .before .before in
@@ -33,11 +24,9 @@ read-fields-requires c κs =
           (sym (at-check-head .check-head .ensures) ∙ c .before .enum-told .given .1),
     )
 
--- src/lib.rt:254:26
 enum-known-verdict : tie.Need-enum-known-verdict
 enum-known-verdict c = search needs
 
--- src/lib.rt:248:1
 returns : tie.Need-returns
 returns c =
     let at-check-head = c .before .before .before .before in
@@ -45,7 +34,6 @@ returns c =
     c .read-fields .ensures ∙ read-on (at-start .args .file .now) _ (c .before .head-in .ensures)
     (sym (at-check-head .check-head .ensures) ∙ c .before .before .enum-told .given .1)
 
--- src/lib.rt:248:1
 returns-2 : tie.Need-returns-2
 returns-2 c =
     let at-check-head = c .before .before .before in

@@ -9,25 +9,18 @@ use native.Mathlib.Omega.{arith}
 use borrow.Author.Needs.{needs}
 use Rattle.reading_fields.proofs.check_content.Statement.{statement}
 use Rattle.reading_fields.proofs.check_content.Tie as tie
-use Rattle.reading_fields.proofs.check_content.Reads as reads
-use Rattle.reading_fields.proofs.check_content.Lts as lts
-use Rattle.refusal.proofs.refuse.Reads as refuse-reads
 
--- src/lib.rt:37:8
 sub-if1 : tie.Need-sub-if1
 sub-if1 c = search needs
 
--- src/lib.rt:38:9
 refuse-requires : tie.Need-refuse-requires
 refuse-requires c κs = search needs
 
--- src/lib.rt:38:9
 returns : tie.Need-returns
 returns c =
     let h : c .before .before .args .left < opening + c .before .before .args .size = omega arith in c .refuse .ensures
     ∙ ap (λ b. cond b (refused 6 (c .before .before .args .at)) Accepted) (sym (lt-ltb _ _ h))
 
--- src/lib.rt:33:1
 returns-2 : tie.Need-returns-2
 returns-2 c =
     let h : opening + c .before .args .size ≤ c .before .args .left = omega arith in ap

@@ -4,21 +4,13 @@ use Rattle.reading_fields.proofs.Openings.{open-short, first-opens, sec
 use borrow.Author.Needs.{needs}
 use Rattle.reading_fields.proofs.check_open.Statement.{statement}
 use Rattle.reading_fields.proofs.check_open.Tie as tie
-use Rattle.reading_fields.proofs.check_open.Reads as reads
-use Rattle.reading_fields.proofs.check_open.Lts as lts
-use Rattle.reading_fields.proofs.check_content.Reads as check-content-reads
-use Rattle.reading_fields.proofs.opens.Reads as opens-reads
-use Rattle.refusal.proofs.refuse.Reads as refuse-reads
 
--- src/lib.rt:49:16
 sub-left : tie.Need-sub-left
 sub-left c = search needs
 
--- src/lib.rt:51:9
 refuse-requires : tie.Need-refuse-requires
 refuse-requires c κs = search needs
 
--- src/lib.rt:51:9
 returns : tie.Need-returns
 returns c =
     let at-start = c .before .before .before in
@@ -27,15 +19,12 @@ returns c =
     (opensEither (given .first) (given .second) (given .file .now) (given .at))
     (sizeEither (given .first) (given .second) (given .file .now) (given .at)) (at-start .pre) (c .before .if1 .taken)
 
--- src/lib.rt:53:8
 opens-requires : tie.Need-opens-requires
 opens-requires c κs = search needs
 
--- src/lib.rt:54:9
 check-content-requires : tie.Need-check-content-requires
 check-content-requires c κs = search needs
 
--- src/lib.rt:54:9
 returns-2 : tie.Need-returns-2
 returns-2 c =
     let at-if1 = c .before .before .before in
@@ -44,15 +33,12 @@ returns-2 c =
     c .check-content .ensures ∙ first-opens (given .file .now) (given .at) (given .first) (given .second)
     (at-start .pre) (at-if1 .if1 .left) (sym (c .before .before .opens .ensures) ∙ c .before .if2 .taken)
 
--- src/lib.rt:56:8
 opens-requires-2 : tie.Need-opens-requires-2
 opens-requires-2 c κs = search needs
 
--- src/lib.rt:57:9
 check-content-requires-2 : tie.Need-check-content-requires-2
 check-content-requires-2 c κs = search needs
 
--- src/lib.rt:57:9
 returns-3 : tie.Need-returns-3
 returns-3 c =
     let at-if2 = c .before .before .before in
@@ -64,11 +50,9 @@ returns-3 c =
     (at-start .pre) (at-if1 .if1 .left) (sym (at-opens .opens .ensures) ∙ at-if2 .if2 .left)
     (sym (c .before .before .opens2 .ensures) ∙ c .before .if3 .taken)
 
--- src/lib.rt:59:5
 refuse-requires-2 : tie.Need-refuse-requires-2
 refuse-requires-2 c κs = search needs
 
--- src/lib.rt:44:1
 returns-4 : tie.Need-returns-4
 returns-4 c =
     let at-if2 = c .before .before .before in

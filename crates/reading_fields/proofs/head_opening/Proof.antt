@@ -1,20 +1,13 @@
 use borrow.Author.Needs.{needs}
 use Rattle.reading_fields.proofs.head_opening.Statement.{statement}
 use Rattle.reading_fields.proofs.head_opening.Tie as tie
-use Rattle.reading_fields.proofs.head_opening.Reads as reads
-use Rattle.reading_fields.proofs.head_opening.Lts as lts
-use Rattle.fields.proofs.head_size.Reads as head-size-reads
-use Rattle.fields.proofs.head_tag.Reads as head-tag-reads
 
--- src/lib.rt:27:14
 head-tag-requires : tie.Need-head-tag-requires
 head-tag-requires c κs = search needs
 
--- src/lib.rt:28:15
 head-size-requires : tie.Need-head-size-requires
 head-size-requires c κs = search needs
 
--- src/lib.rt:23:1
 returns : tie.Need-returns
 returns c = (λ i. record { tag = c .before .head-tag .ensures i; size = c .head-size .ensures i })
 

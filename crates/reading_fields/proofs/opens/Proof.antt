@@ -4,45 +4,33 @@ use native.Mathlib.Omega.{arith}
 use borrow.Author.Needs.{needs}
 use Rattle.reading_fields.proofs.opens.Statement.{statement}
 use Rattle.reading_fields.proofs.opens.Tie as tie
-use Rattle.reading_fields.proofs.opens.Reads as reads
-use Rattle.reading_fields.proofs.opens.Lts as lts
-use Rattle.numbers.proofs.wide.Reads as wide-reads
 
--- src/lib.rt:26:8
 shared-slice-read-if1 : tie.Need-shared-slice-read-if1
 shared-slice-read-if1 c = search needs
 
--- src/lib.rt:27:41
 add-wide : tie.Need-add-wide
 add-wide c = search needs
 
--- src/lib.rt:27:36
 shared-slice-read-wide : tie.Need-shared-slice-read-wide
 shared-slice-read-wide c = search needs
 
--- src/lib.rt:27:22
 wide-requires : tie.Need-wide-requires
 wide-requires c κs = search needs
 
--- src/lib.rt:27:16
 mul-result : tie.Need-mul-result
 mul-result c =
     let at-start = c .before .before .before .before .before .before in
     omega (arith, c .wide .ensures, c .before .shared-slice-known3 .given (at-start .args .at + 1))
 
--- src/lib.rt:27:71
 add-wide-2 : tie.Need-add-wide-2
 add-wide-2 c = search needs
 
--- src/lib.rt:27:66
 shared-slice-read-wide-2 : tie.Need-shared-slice-read-wide-2
 shared-slice-read-wide-2 c = search needs
 
--- src/lib.rt:27:52
 wide-requires-2 : tie.Need-wide-requires-2
 wide-requires-2 c κs = search needs
 
--- src/lib.rt:27:16
 add-result : tie.Need-add-result
 add-result c =
     let at-shared-slice-known3 = c .before .before .before in
@@ -55,18 +43,15 @@ add-result c =
       c .before .shared-slice-known4 .given (at-start .args .at + 2),
     )
 
--- src/lib.rt:27:83
 wide-requires-3 : tie.Need-wide-requires-3
 wide-requires-3 c κs = search needs
 
--- src/lib.rt:27:9
 returns : tie.Need-returns
 returns c =
     let at-wide = c .before .before .before in
     let at-if1 = at-wide .before .before in
     simp (eq-eqb _ _ (at-if1 .if1 .taken), at-wide .wide .ensures, c .before .wide2 .ensures, c .wide3 .ensures)
 
--- src/lib.rt:22:1
 returns-2 : tie.Need-returns-2
 returns-2 c = simp (ne-eqb _ _ (c .if1 .left))
 

@@ -8,10 +8,6 @@ use Rattle.text_lines.proofs.Lines.{refusal-room}
 use Rattle.text_lines.specs.Text.{refusalLine}
 use Rattle.reasons.proofs.put_opening.Statement.{statement}
 use Rattle.reasons.proofs.put_opening.Tie as tie
-use Rattle.reasons.proofs.put_opening.Reads as reads
-use Rattle.reasons.proofs.put_opening.Lts as lts
-use Rattle.phrases.proofs.append.Reads as append-reads
-use Rattle.text_lines.proofs.put_refusal.Reads as put-refusal-reads
 
 put-refusal-requires : tie.Need-put-refusal-requires
 put-refusal-requires c κs = search needs

@@ -2,13 +2,14 @@
 use mathlib.Core.Path.{_≡_}
 use Prim.Native.Nat.{_+_, _-_, _≤_}
 use native.Mathlib.Omega.{arith}
-use Rattle.residue_marks.specs.Marks.{block, Unmarked}
+use Rattle.buffers.specs.Runs.{ZeroRun}
+use Rattle.residue_marks.specs.Marks.{block}
 use Rattle.residue_marks.proofs.Marking.{block-none, block-more, block-end}
 use Rattle.residue_marks.proofs.block_marks.Statement.{statement}
 use Rattle.residue_marks.proofs.block_marks.Tie as tie
 
 abbrev Inv-loop : tie.InvT-loop
-Inv-loop marks from all₀ i₀ all i = (i ≤ block) × (all ≡ 0 → Unmarked marks from (from + i))
+Inv-loop marks from all₀ i₀ all i = (i ≤ block) × (all ≡ 0 → ZeroRun marks from (from + i))
 
 abbrev μ-loop : tie.MeasureT-loop
 μ-loop marks from all₀ i₀ all i = block - i

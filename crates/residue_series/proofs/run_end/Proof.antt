@@ -4,105 +4,80 @@ use native.Mathlib.Omega.{arith}
 use borrow.Author.Needs.{needs}
 use Rattle.residue_series.proofs.run_end.Statement.{statement}
 use Rattle.residue_series.proofs.run_end.Tie as tie
-use Rattle.residue_series.proofs.run_end.Reads as reads
-use Rattle.residue_series.proofs.run_end.Lts as lts
-use Rattle.numbers.proofs.smaller.Reads as smaller-reads
 
--- src/lib.rt:53:17
 cast-width : tie.Need-cast-width
 cast-width c = search needs
 
--- src/lib.rt:54:18
 cast-cells : tie.Need-cast-cells
 cast-cells c = search needs
 
--- src/lib.rt:54:17
 mul-cells : tie.Need-mul-cells
 mul-cells c = omega (arith, c .before .before .pre .place, level-small _ _ _ _ (c .before .before .pre))
 
--- src/lib.rt:55:24
 sub-end : tie.Need-sub-end
 sub-end c = search needs
 
--- src/lib.rt:55:23
 mul-end : tie.Need-mul-end
 mul-end c = search needs
 
--- src/lib.rt:55:15
 sub-end-2 : tie.Need-sub-end-2
 sub-end-2 c = search needs
 
--- src/lib.rt:57:9
 smaller-requires : tie.Need-smaller-requires
 smaller-requires c κs = search needs
 
--- src/lib.rt:57:9
 returns : tie.Need-returns
 returns c = search needs
 
--- src/lib.rt:59:17
 add-if2 : tie.Need-add-if2
 add-if2 c =
     let at-start = c .before .before .before .before in
     omega (arith, at-start .pre .place, level-small _ _ _ _ (at-start .pre))
 
--- src/lib.rt:60:9
 returns-2 : tie.Need-returns-2
 returns-2 c = search needs
 
--- src/lib.rt:63:16
 add-result : tie.Need-add-result
 add-result c = search needs
 
--- src/lib.rt:63:9
 returns-3 : tie.Need-returns-3
 returns-3 c = search needs
 
--- src/lib.rt:65:17
 add-if4 : tie.Need-add-if4
 add-if4 c =
     let at-start = c .before .before .before .before .before .before in
     omega (arith, at-start .pre .place, level-small _ _ _ _ (at-start .pre))
 
--- src/lib.rt:65:17
 add-if4-2 : tie.Need-add-if4-2
 add-if4-2 c =
     let at-start = c .before .before .before .before .before .before in
     omega (arith, at-start .pre .place, level-small _ _ _ _ (at-start .pre))
 
--- src/lib.rt:66:16
 add-result-2 : tie.Need-add-result-2
 add-result-2 c =
     let at-start = c .before .before .before .before .before .before .before in
     omega (arith, at-start .pre .place, level-small _ _ _ _ (at-start .pre))
 
--- src/lib.rt:66:9
 returns-4 : tie.Need-returns-4
 returns-4 c = search needs
 
--- src/lib.rt:70:26
 add-smaller : tie.Need-add-smaller
 add-smaller c =
     let at-start = c .before .before .before .before .before .before .before in
     omega (arith, at-start .pre .place, level-small _ _ _ _ (at-start .pre))
 
--- src/lib.rt:70:54
 sub-smaller : tie.Need-sub-smaller
 sub-smaller c = search needs
 
--- src/lib.rt:70:54
 sub-smaller-2 : tie.Need-sub-smaller-2
 sub-smaller-2 c = search needs
 
--- src/lib.rt:70:9
 smaller-requires-2 : tie.Need-smaller-requires-2
 smaller-requires-2 c κs = search needs
 
--- src/lib.rt:68:5
 smaller-requires-3 : tie.Need-smaller-requires-3
 smaller-requires-3 c κs = search needs
 
--- src/lib.rt:48:1
 returns-5 : tie.Need-returns-5
 returns-5 c = search needs
 

@@ -2,15 +2,10 @@
 use borrow.Author.Needs.{needs}
 use Rattle.scan_text.proofs.put_list.Statement.{statement}
 use Rattle.scan_text.proofs.put_list.Tie as tie
-use Rattle.scan_text.proofs.put_list.Reads as reads
-use Rattle.scan_text.proofs.put_list.Lts as lts
 use mathlib.Core.Path.{_≡_, _∙_}
 use native.Mathlib.Omega.{arith}
 use Rattle.scan_text.specs.Program.{plateIn}
 use Rattle.scan_text.proofs.Scans.{job-of, text-put, same-head}
-use Rattle.refusal.proofs.head_of.Reads as head-of-reads
-use Rattle.scan.proofs.byte_in.Reads as byte-in-reads
-use Rattle.text.proofs.put_page.Reads as put-page-reads
 
 byte-in-requires : tie.Need-byte-in-requires
 byte-in-requires c κs = search needs

@@ -2,22 +2,14 @@
 use borrow.Author.Needs.{needs}
 use Rattle.scan_text.proofs.put_text.Statement.{statement}
 use Rattle.scan_text.proofs.put_text.Tie as tie
-use Rattle.scan_text.proofs.put_text.Reads as reads
-use Rattle.scan_text.proofs.put_text.Lts as lts
-use mathlib.Core.Path.{_≡_, sym, subst}
+use mathlib.Core.Path.{subst}
 use mathlib.Core.List.{List}
 use Prim.Native.Nat.{ℕ}
-use native.Mathlib.Omega.{arith}
 use Rattle.numerals.specs.Numerals.{Puts}
 use Rattle.jobs.specs.Calls.{ListCall}
 use Rattle.listing.specs.declared.ListAnswer.{ListAnswer}
 use Rattle.scan.specs.Scan.{byteIn, depths}
 use Rattle.scan_text.proofs.Scans.{unlisted-text, listed-file, listed-counts, listed-text}
-use Rattle.scan_listing.proofs.list_scan.Reads as list-scan-reads
-use Rattle.scan_text.proofs.cells.Reads as cells-reads
-use Rattle.scan_text.proofs.file_buffer.Reads as file-buffer-reads
-use Rattle.scan_text.proofs.put_list.Reads as put-list-reads
-use Rattle.text_lines.proofs.put_refusal.Reads as put-refusal-reads
 
 file-buffer-requires : tie.Need-file-buffer-requires
 file-buffer-requires c κs = search needs

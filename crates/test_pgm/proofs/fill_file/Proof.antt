@@ -5,9 +5,6 @@ use mathlib.Core.Path.{_≡_}
 use lib.ListN.{length}
 use Rattle.test_pgm.proofs.fill_file.Statement.{statement}
 use Rattle.test_pgm.proofs.fill_file.Tie as tie
-use Rattle.test_pgm.proofs.fill_file.Reads as reads
-use Rattle.test_pgm.proofs.fill_file.Lts as lts
-use Rattle.test_pgm.proofs.file_byte.Reads as file-byte-reads
 
 abbrev Inv-loop : tie.InvT-loop
 Inv-loop file₀ s i₀ file i = length file ≡ length file₀

@@ -5,9 +5,6 @@ use mathlib.Core.Path.{_≡_}
 use lib.ListN.{length}
 use Rattle.test_plunges.proofs.fill_scan.Statement.{statement}
 use Rattle.test_plunges.proofs.fill_scan.Tie as tie
-use Rattle.test_plunges.proofs.fill_scan.Reads as reads
-use Rattle.test_plunges.proofs.fill_scan.Lts as lts
-use Rattle.test_plunges.proofs.scan_byte.Reads as scan-byte-reads
 
 abbrev Inv-loop : tie.InvT-loop
 Inv-loop scan₀ s i₀ scan i = length scan ≡ length scan₀

@@ -2,8 +2,6 @@
 use borrow.Author.Needs.{needs}
 use Rattle.text.proofs.put_line.Statement.{statement}
 use Rattle.text.proofs.put_line.Tie as tie
-use Rattle.text.proofs.put_line.Reads as reads
-use Rattle.text.proofs.put_line.Lts as lts
 use mathlib.Core.Path.{_≡_, sym, ap, _∙_}
 use native.Mathlib.Omega.{arith}
 use Prim.Native.Nat.{ℕ, _<_}
@@ -11,10 +9,6 @@ use lib.ListN.{getD}
 use Rattle.text_lines.specs.Text.{plateLine, plungeLine, totalLine}
 use Rattle.text.specs.Pages.{lineAt}
 use Rattle.text.proofs.Pages.{line-plate, line-plunge, line-total, line-put, line-asks}
-use Rattle.reading.proofs.nth_plunge.Reads as nth-plunge-reads
-use Rattle.text_lines.proofs.put_plate.Reads as put-plate-reads
-use Rattle.text_lines.proofs.put_plunge.Reads as put-plunge-reads
-use Rattle.text_lines.proofs.put_total.Reads as put-total-reads
 
 put-plate-requires : tie.Need-put-plate-requires
 put-plate-requires c κs =

@@ -1,18 +1,13 @@
 -- `put_page` puts line after line, as long as there is room.
 use Rattle.reading.proofs.Answers.{total-few}
-use borrow.Author.Needs.{needs}
 use Rattle.text.proofs.put_page.Statement.{statement}
 use Rattle.text.proofs.put_page.Tie as tie
-use Rattle.text.proofs.put_page.Reads as reads
-use Rattle.text.proofs.put_page.Lts as lts
-use mathlib.Core.Path.{_∙_}
 use native.Mathlib.Omega.{arith}
-use Prim.Native.Nat.{_+_, _-_}
+use Prim.Native.Nat.{_-_}
 use Rattle.text.specs.Pages.{lineAt, lineCount}
 use Rattle.text_lines.specs.Text.{lineRoom}
 use Rattle.phrases.proofs.Puts.{counts}
 use Rattle.text.proofs.Pages.{Filled, filled-none, filled-more, filled-page}
-use Rattle.text.proofs.put_line.Reads as put-line-reads
 
 abbrev Inv-loop : tie.InvT-loop
 Inv-loop page₀ file job from plunges used₀ next₀ page used next = Filled (lineAt file) (lineCount file) from page₀ page used next

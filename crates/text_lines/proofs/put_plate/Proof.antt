@@ -2,8 +2,6 @@
 use borrow.Author.Needs.{needs}
 use Rattle.text_lines.proofs.put_plate.Statement.{statement}
 use Rattle.text_lines.proofs.put_plate.Tie as tie
-use Rattle.text_lines.proofs.put_plate.Reads as reads
-use Rattle.text_lines.proofs.put_plate.Lts as lts
 use mathlib.Core.Path.{sym, subst}
 use mathlib.Core.List.{_++_}
 use Prim.Native.Nat.{ℕ, _+_, _≤_}
@@ -12,9 +10,6 @@ use Rattle.numerals.specs.Numerals.{Puts}
 use Rattle.geometry.specs.Forms.{kindByte}
 use Rattle.text_lines.specs.Text.{word, plateWord}
 use Rattle.phrases.proofs.Puts.{first-room, next-room, two-texts, room-1, room-2, room-3, three-texts}
-use Rattle.geometry.proofs.Kind.byte.Reads as byte-reads
-use Rattle.phrases.proofs.put_bytes.Reads as put-bytes-reads
-use Rattle.text_lines.proofs.put_word.Reads as put-word-reads
 
 slice-aggregate-put-bytes : tie.Need-slice-aggregate-put-bytes
 slice-aggregate-put-bytes c = search needs

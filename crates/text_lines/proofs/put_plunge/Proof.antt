@@ -2,12 +2,9 @@
 use borrow.Author.Needs.{needs}
 use Rattle.text_lines.proofs.put_plunge.Statement.{statement}
 use Rattle.text_lines.proofs.put_plunge.Tie as tie
-use Rattle.text_lines.proofs.put_plunge.Reads as reads
-use Rattle.text_lines.proofs.put_plunge.Lts as lts
 use mathlib.Core.List.{_++_}
 use Rattle.text_lines.specs.Text.{word}
 use Rattle.phrases.proofs.Puts.{first-room, next-room, two-texts, room-1, room-2, room-3, three-texts}
-use Rattle.text_lines.proofs.put_word.Reads as put-word-reads
 
 cast-put-word : tie.Need-cast-put-word
 cast-put-word c = search needs

@@ -2,14 +2,10 @@
 use borrow.Author.Needs.{needs}
 use Rattle.text_lines.proofs.put_refusal.Statement.{statement}
 use Rattle.text_lines.proofs.put_refusal.Tie as tie
-use Rattle.text_lines.proofs.put_refusal.Reads as reads
-use Rattle.text_lines.proofs.put_refusal.Lts as lts
 use mathlib.Core.List.{_++_}
 use Rattle.text_lines.specs.Text.{word, refusedWord}
 use Rattle.phrases.proofs.Puts.{room-1, room-2, room-3, three-texts, puts-counts}
 use Rattle.text_lines.proofs.Lines.{refusal-room}
-use Rattle.phrases.proofs.put_bytes.Reads as put-bytes-reads
-use Rattle.text_lines.proofs.put_word.Reads as put-word-reads
 
 slice-aggregate-put-bytes : tie.Need-slice-aggregate-put-bytes
 slice-aggregate-put-bytes c = search needs

@@ -2,12 +2,8 @@
 use borrow.Author.Needs.{needs}
 use Rattle.text_lines.proofs.put_total.Statement.{statement}
 use Rattle.text_lines.proofs.put_total.Tie as tie
-use Rattle.text_lines.proofs.put_total.Reads as reads
-use Rattle.text_lines.proofs.put_total.Lts as lts
 use Rattle.text_lines.specs.Text.{word, totalWord}
 use Rattle.phrases.proofs.Puts.{first-room, next-room, two-texts}
-use Rattle.phrases.proofs.put_bytes.Reads as put-bytes-reads
-use Rattle.text_lines.proofs.put_word.Reads as put-word-reads
 
 slice-aggregate-put-bytes : tie.Need-slice-aggregate-put-bytes
 slice-aggregate-put-bytes c = search needs

@@ -2,22 +2,17 @@
 use borrow.Author.Needs.{needs}
 use Rattle.text_lines.proofs.put_word.Statement.{statement}
 use Rattle.text_lines.proofs.put_word.Tie as tie
-use Rattle.text_lines.proofs.put_word.Reads as reads
-use Rattle.text_lines.proofs.put_word.Lts as lts
 use mathlib.Core.List.{[], _∷_}
 use native.Mathlib.Omega.{arith}
 use lib.ListN.{length-append}
 use Rattle.numerals.specs.Numerals.{numeral}
 use Rattle.phrases.proofs.Puts.{puts-length, puts-byte}
-use Rattle.numerals.proofs.put_numeral.Reads as put-numeral-reads
 
--- src/lib.rt:43:9
 put-numeral-requires : tie.Need-put-numeral-requires
 put-numeral-requires c κs =
     let at-start = c .before .before in
     omega (arith, length-append (numeral (at-start .args .n)) (at-start .args .mark ∷ []))
 
--- src/lib.rt:44:5
 slice-write-page : tie.Need-slice-write-page
 slice-write-page c =
     let at-put-numeral = c .before .before in
@@ -27,18 +22,15 @@ slice-write-page c =
     let l = length-append (numeral (given .n)) (given .mark ∷ []) in
     omega (arith, l, e .1, puts-length (given .page .now) (given .at) (numeral (given .n)) _ _ e (omega (arith, l)))
 
--- src/lib.rt:45:5
 add-result : tie.Need-add-result
 add-result c =
     let at-put-numeral = c .before .before in
     let at-start = at-put-numeral .before .before .before in
     omega (arith, at-put-numeral .put-numeral .ensures .1, length-append (numeral (at-start .args .n)) (at-start .args .mark ∷ []))
 
--- src/lib.rt:39:1
 same-length : tie.Need-same-length
 same-length c = search needs
 
--- src/lib.rt:39:1
 returns : tie.Need-returns
 returns c =
     let at-put-numeral = c .before .before in

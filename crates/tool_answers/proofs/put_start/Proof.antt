@@ -2,8 +2,6 @@
 use borrow.Author.Needs.{needs}
 use Rattle.tool_answers.proofs.put_start.Statement.{statement}
 use Rattle.tool_answers.proofs.put_start.Tie as tie
-use Rattle.tool_answers.proofs.put_start.Reads as reads
-use Rattle.tool_answers.proofs.put_start.Lts as lts
 use native.Mathlib.Omega.{arith}
 use lib.ListN.{length-set}
 

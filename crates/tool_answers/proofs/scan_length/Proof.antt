@@ -2,20 +2,15 @@
 use borrow.Author.Needs.{needs}
 use Rattle.tool_answers.proofs.scan_length.Statement.{statement}
 use Rattle.tool_answers.proofs.scan_length.Tie as tie
-use Rattle.tool_answers.proofs.scan_length.Reads as reads
-use Rattle.tool_answers.proofs.scan_length.Lts as lts
 use native.Mathlib.Omega.{arith}
 use Rattle.refusal.proofs.Refusals.{area-fits}
 
--- src/main.rt:119:9
 mul-result : tie.Need-mul-result
 mul-result c = omega (arith, area-fits (c .args .width) (c .args .height) (omega arith) (omega arith))
 
--- src/main.rt:119:5
 add-result : tie.Need-add-result
 add-result c = omega (arith, area-fits (c .args .width) (c .args .height) (omega arith) (omega arith))
 
--- src/main.rt:118:1
 returns : tie.Need-returns
 returns c = search needs
 

@@ -4,10 +4,6 @@ use native.Mathlib.Omega.{arith}
 use Rattle.job_relief.proofs.Relief.{workable}
 use Rattle.tool_answers.proofs.summarize.Statement.{statement}
 use Rattle.tool_answers.proofs.summarize.Tie as tie
-use Rattle.tool_answers.proofs.summarize.Reads as reads
-use Rattle.tool_answers.proofs.summarize.Lts as lts
-use Rattle.job_summary.proofs.append_summary.Reads as append-summary-reads
-use Rattle.tool_answers.proofs.too_short.Reads as too-short-reads
 
 too-short-requires : tie.Need-too-short-requires
 too-short-requires c κs = search needs

@@ -1,15 +1,8 @@
 -- `given_options` goes from word to word.
 use borrow.Author.Needs.{needs}
 use Prim.Native.Nat.{_-_}
-use native.Mathlib.Omega.{arith}
 use Rattle.tool_words.proofs.given_options.Statement.{statement}
 use Rattle.tool_words.proofs.given_options.Tie as tie
-use Rattle.tool_words.proofs.given_options.Reads as reads
-use Rattle.tool_words.proofs.given_options.Lts as lts
-use Rattle.tool_words.proofs.next.Reads as next-reads
-use Rattle.tool_words.proofs.with_word.Reads as with-word-reads
-use Rattle.tool_words.proofs.word_at.Reads as word-at-reads
-use Rattle.os.proofs.arg_count.Reads as arg-count-reads
 
 abbrev Inv-loop : tie.InvT-loop
 Inv-loop count options₀ i₀ options i = Unit

@@ -1,15 +1,8 @@
 -- `plain_word` goes from word to word.
 use borrow.Author.Needs.{needs}
 use Prim.Native.Nat.{_-_}
-use native.Mathlib.Omega.{arith}
 use Rattle.tool_words.proofs.plain_word.Statement.{statement}
 use Rattle.tool_words.proofs.plain_word.Tie as tie
-use Rattle.tool_words.proofs.plain_word.Reads as reads
-use Rattle.tool_words.proofs.plain_word.Lts as lts
-use Rattle.tool_words.proofs.is_plain.Reads as is-plain-reads
-use Rattle.tool_words.proofs.next.Reads as next-reads
-use Rattle.tool_words.proofs.word_at.Reads as word-at-reads
-use Rattle.os.proofs.arg_count.Reads as arg-count-reads
 
 abbrev Inv-loop : tie.InvT-loop
 Inv-loop which count left₀ i₀ left i = Unit

@@ -3,7 +3,6 @@ use Rattle.window.proofs.Windows.{three}
 use borrow.Author.Needs.{needs}
 use Rattle.window.proofs.row_before.Statement.{statement}
 use Rattle.window.proofs.row_before.Tie as tie
-use Rattle.window.proofs.at_before.Reads as at-before-reads
 
 at-before-requires : tie.Need-at-before-requires
 at-before-requires c κs = search needs

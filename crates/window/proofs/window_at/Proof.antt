@@ -4,7 +4,6 @@ use Rattle.window.proofs.Windows.{three, window-is}
 use borrow.Author.Needs.{needs}
 use Rattle.window.proofs.window_at.Statement.{statement}
 use Rattle.window.proofs.window_at.Tie as tie
-use Rattle.window.proofs.row_before.Reads as row-before-reads
 
 row-before-requires : tie.Need-row-before-requires
 row-before-requires c κs = search needs

@@ -3,7 +3,6 @@ use Rattle.window.proofs.Windows.{three}
 use borrow.Author.Needs.{needs}
 use Rattle.window.proofs.window_in.Statement.{statement}
 use Rattle.window.proofs.window_in.Tie as tie
-use Rattle.window.proofs.row_in.Reads as row-in-reads
 
 sub-row-in : tie.Need-sub-row-in
 sub-row-in c = search needs

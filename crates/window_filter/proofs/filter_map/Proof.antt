@@ -1,6 +1,6 @@
 -- `filter_map` leaves a plate that is edge alone, and otherwise has one of two passes make the rows.
 use borrow.Author.Needs.{needs}
-use Rattle.window_filter.proofs.InPlace.{filtered-narrow, filtered-low, highest-made}
+use Rattle.row_filter.proofs.InPlace.{filtered-narrow, filtered-low, highest-made}
 use Rattle.window_filter.proofs.filter_map.Statement.{statement}
 use Rattle.window_filter.proofs.filter_map.Tie as tie
 

@@ -2,8 +2,6 @@
 use borrow.Author.Needs.{needs}
 use Rattle.file_status.proofs.path.is_path.Statement.{statement}
 use Rattle.file_status.proofs.path.is_path.Tie as tie
-use Rattle.file_status.proofs.path.is_path.Reads as reads
-use Rattle.file_status.proofs.path.is_path.Lts as lts
 use mathlib.Core.Path.{_≡_, refl, sym, _∙_}
 use Prim.Native.Nat.{_-_}
 use lib.ListN.{length, drop}
@@ -16,19 +14,15 @@ Inv-loop name i₀ i = noZero (drop i name) ≡ noZero name
 abbrev μ-loop : tie.MeasureT-loop
 μ-loop name i₀ i = length name - i
 
--- src/path.rt:13:9
 returns : tie.Need-returns Inv-loop μ-loop
 returns c = sym (long-none (c .before .args .name .now) (c .if1 .taken))
 
--- src/path.rt:16:5
 loop-holds : tie.Need-loop-holds Inv-loop μ-loop
 loop-holds c = refl
 
--- src/path.rt:17:12
 shared-slice-read-if2 : tie.Need-shared-slice-read-if2 Inv-loop μ-loop
 shared-slice-read-if2 c = search needs
 
--- src/path.rt:18:13
 returns-2 : tie.Need-returns-2 Inv-loop μ-loop
 returns-2 c =
     let at-loop = c .before .before .before in
@@ -37,22 +31,18 @@ returns-2 c =
     (short-path name (at-loop .before .if1 .left) ∙ sym (at-loop .loop .inv)
     ∙ rest-zero name (at-loop .loop .i) (c .before .before .loop-test .taken) (c .if2 .taken))
 
--- src/path.rt:20:9
 add-i : tie.Need-add-i Inv-loop μ-loop
 add-i c = search needs
 
--- src/path.rt:16:5
 loop-less : tie.Need-loop-less Inv-loop μ-loop
 loop-less c = search needs
 
--- src/path.rt:16:5
 loop-again : tie.Need-loop-again Inv-loop μ-loop
 loop-again c =
     let at-loop = c .before .before .before in
     let name = at-loop .before .before .args .name .now in
     rest-more name (at-loop .loop .i) (c .before .before .loop-test .taken) (c .if2 .left) ∙ at-loop .loop .inv
 
--- src/path.rt:9:1
 returns-3 : tie.Need-returns-3 Inv-loop μ-loop
 returns-3 c =
     let at-loop = c .before in

@@ -2,8 +2,6 @@
 use borrow.Author.Needs.{needs}
 use Rattle.file_status.proofs.path.path_of.Statement.{statement}
 use Rattle.file_status.proofs.path.path_of.Tie as tie
-use Rattle.file_status.proofs.path.path_of.Reads as reads
-use Rattle.file_status.proofs.path.path_of.Lts as lts
 use Prim.Native.Nat.{_-_}
 use native.Mathlib.Omega.{arith}
 use lib.ListN.{length}
@@ -15,34 +13,27 @@ Inv-loop name path₀ i₀ path i = Copied name path i
 abbrev μ-loop : tie.MeasureT-loop
 μ-loop name path₀ i₀ path i = length name - i
 
--- src/path.rt:32:5
 loop-holds : tie.Need-loop-holds Inv-loop μ-loop
 loop-holds c = copied-none (c .args .name .now)
 
--- src/path.rt:33:19
 shared-slice-read-path : tie.Need-shared-slice-read-path Inv-loop μ-loop
 shared-slice-read-path c = search needs
 
--- src/path.rt:33:9
 array-write-path : tie.Need-array-write-path Inv-loop μ-loop
 array-write-path c = omega (arith, c .before .loop-test .taken, c .before .before .before .pre)
 
--- src/path.rt:34:9
 add-i : tie.Need-add-i Inv-loop μ-loop
 add-i c = search needs
 
--- src/path.rt:32:5
 loop-less : tie.Need-loop-less Inv-loop μ-loop
 loop-less c = search needs
 
--- src/path.rt:32:5
 loop-again : tie.Need-loop-again Inv-loop μ-loop
 loop-again c =
     let at-loop = c .before .before in
     let name = at-loop .before .args .name .now in
     copied-more name (at-loop .loop .path) (at-loop .loop .i) (at-loop .before .pre) (at-loop .loop .inv) (c .before .loop-test .taken)
 
--- src/path.rt:26:1
 returns : tie.Need-returns Inv-loop μ-loop
 returns c =
     let at-loop = c .before in

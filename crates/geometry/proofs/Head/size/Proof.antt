@@ -2,22 +2,17 @@ use Rattle.geometry.proofs.Sizes.{small-size, tall-size, wide-size}
 use mathlib.Core.Path.{sym}
 use Rattle.geometry.proofs.Head.size.Statement.{statement}
 use Rattle.geometry.proofs.Head.size.Tie as tie
-use Rattle.geometry.proofs.Head.size.Reads as reads
-use Rattle.geometry.proofs.Head.size.Lts as lts
 
--- src/lib.rt:65:17
 returns : tie.Need-returns
 returns c =
     let at-start = c .before .before .before .before in
     sym (small-size (at-start .args .self) (c .before .before .if1 .taken) (c .if2 .taken))
 
--- src/lib.rt:60:5
 returns-2 : tie.Need-returns-2
 returns-2 c =
     let at-start = c .before .before .before .before in
     sym (tall-size (at-start .args .self) (c .if2 .left))
 
--- src/lib.rt:60:5
 returns-3 : tie.Need-returns-3
 returns-3 c = sym (wide-size (c .before .before .args .self) (c .if1 .left))
 

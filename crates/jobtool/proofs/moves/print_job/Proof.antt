@@ -2,8 +2,6 @@
 use borrow.Author.Needs.{needs}
 use Rattle.jobtool.proofs.moves.print_job.Statement.{statement}
 use Rattle.jobtool.proofs.moves.print_job.Tie as tie
-use Rattle.jobtool.proofs.moves.print_job.Reads as reads
-use Rattle.jobtool.proofs.moves.print_job.Lts as lts
 use mathlib.Core.Path.{_≡_}
 use Prim.Native.Nat.{_-_, _≤_}
 use native.Mathlib.Omega.{arith}
@@ -11,9 +9,6 @@ use lib.ListN.{length}
 use Rattle.reading.specs.Reading.{total}
 use Rattle.motion_text.specs.Lines.{linesAt, linesRoom}
 use Rattle.text.proofs.Pages.{page-goes-on}
-use Rattle.io.proofs.large_buffer.Reads as large-buffer-reads
-use Rattle.io.proofs.write_all.Reads as write-all-reads
-use Rattle.motion_text.proofs.put_page.Reads as put-page-reads
 
 abbrev Inv-loop : tie.InvT-loop
 Inv-loop fd file job scale plunges page₀ next₀ page next = (next ≤ total file) × (65536 ≡ length page)

@@ -2,12 +2,8 @@
 use borrow.Author.Needs.{needs}
 use Rattle.jobtool.proofs.moves.print_motions.Statement.{statement}
 use Rattle.jobtool.proofs.moves.print_motions.Tie as tie
-use Rattle.jobtool.proofs.moves.print_motions.Reads as reads
-use Rattle.jobtool.proofs.moves.print_motions.Lts as lts
 use mathlib.Core.Path.{sym, _∙_}
 use Rattle.reading.proofs.Answers.{read-accepted}
-use Rattle.jobtool.proofs.moves.print_job.Reads as print-job-reads
-use Rattle.reading.proofs.read.Reads as read-reads
 
 read-requires : tie.Need-read-requires
 read-requires c κs = search needs

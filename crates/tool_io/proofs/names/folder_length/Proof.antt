@@ -5,8 +5,6 @@ use lib.ListN.{length}
 use Rattle.phrases.proofs.Puts.{counts}
 use Rattle.tool_io.proofs.names.folder_length.Statement.{statement}
 use Rattle.tool_io.proofs.names.folder_length.Tie as tie
-use Rattle.tool_io.proofs.names.folder_length.Reads as reads
-use Rattle.tool_io.proofs.names.folder_length.Lts as lts
 
 abbrev Inv-loop : tie.InvT-loop
 Inv-loop name i₀ i = i ≤ length name

@@ -1,15 +1,11 @@
 -- `follow_links` goes on while the name is a link.
 use borrow.Author.Needs.{needs}
 use mathlib.Core.Path.{_≡_, refl}
-use native.Mathlib.Omega.{arith}
 use lib.ListN.{length}
 use Rattle.phrases.proofs.Puts.{counts}
 use Rattle.io.specs.Counts.{Counts}
 use Rattle.tool_io.proofs.names.follow_links.Statement.{statement}
 use Rattle.tool_io.proofs.names.follow_links.Tie as tie
-use Rattle.tool_io.proofs.names.follow_links.Reads as reads
-use Rattle.tool_io.proofs.names.follow_links.Lts as lts
-use Rattle.tool_io.proofs.names.follow_link.Reads as follow-link-reads
 
 abbrev Inv-loop : tie.InvT-loop
 Inv-loop name₀ n used₀ left₀ name used left = Counts used name × (length name ≡ length name₀)

@@ -1,16 +1,10 @@
 -- `create_beside` tries another name while the last one was taken.
 use borrow.Author.Needs.{needs}
-use mathlib.Core.Path.{_≡_, refl}
-use native.Mathlib.Omega.{arith}
+use mathlib.Core.Path.{_≡_}
 use lib.ListN.{length}
-use Rattle.phrases.proofs.Puts.{counts}
 use Rattle.io.specs.Counts.{Counts}
 use Rattle.tool_io.proofs.output.create_beside.Statement.{statement}
 use Rattle.tool_io.proofs.output.create_beside.Tie as tie
-use Rattle.tool_io.proofs.output.create_beside.Reads as reads
-use Rattle.tool_io.proofs.output.create_beside.Lts as lts
-use Rattle.tool_io.proofs.output.create_one.Reads as create-one-reads
-use Rattle.tool_io.proofs.output.is_taken.Reads as is-taken-reads
 
 abbrev Inv-loop : tie.InvT-loop
 Inv-loop name part₀ made₀ tries₀ part made tries = Counts (made .length) part × (length part ≡ length part₀)

@@ -1,4 +1,0 @@
-pub mod InPlace
-pub mod Keeping
-pub mod Cross
-pub mod Square

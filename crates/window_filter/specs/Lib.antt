@@ -1,3 +1,0 @@
-pub mod Filter
-pub mod Cross
-pub mod Square
