@@ -190,8 +190,11 @@ def compare_motions(judge, file, plunges, i, scale):
 
 
 def compare_scales(judge, rng, many):
-    """Every end of every range against every other, and random scales, over plunges of every depth and all reaches."""
-    deep = [(c, r, 0, d) for d, (c, r) in enumerate(((int(c), int(r)) for c, r in rng.integers(0, 240, (255, 2))), 1)]
+    """Every end of every range against every other, and random scales, over plunges of every depth, at reach 0, 1 and another, and of all reaches."""
+    def inside(reach):
+        return int(rng.integers(reach, 240 - reach))
+
+    deep = [(inside(reach), inside(reach), reach, depth) for depth in range(1, 256) for reach in (0, 1, int(rng.integers(2, 120)))]
     wide = [(c, 120, reach, 1) for reach in range(120) for c in {reach, 239 - reach}]
     plunges = deep + wide
     file = files.encode(int(rng.choice([4, 8])), 240, 240, plunges)

@@ -32,8 +32,11 @@ def fused_travel(offset, cell, pitch):
     return rounded(Fraction(offset) + (2 * cell + 1) * Fraction(pitch))
 
 
-def sink(depth):
-    return rounded(Fraction(20 * depth + depth * depth // 64, 1000))
+def sink(reach, depth):
+    """The table's entry in millimetres, with a tenth more at reach 0, rounded down to whole micrometres."""
+    entry = 20 * depth + math.floor(Fraction(depth * depth, 64))
+    worn = Fraction(11, 10) if reach == 0 else 1
+    return rounded(Fraction(math.floor(entry * worn), 1000))
 
 
 def motions(plunges, i, pitch, column_offset, row_offset):
@@ -46,7 +49,7 @@ def motions(plunges, i, pitch, column_offset, row_offset):
     changed = i == 0 or plunges[i - 1][2] != reach
     width = rounded(2 * (2 * reach + 1) * Fraction(pitch)) if changed else 0.0
     return (0, int(changed), 0, bits(width), bits(travel(column_offset, column, pitch)), bits(travel(row_offset, row, pitch)),
-            bits(sink(depth)))
+            bits(sink(reach, depth)))
 
 
 # ---- scales to try

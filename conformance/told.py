@@ -90,7 +90,7 @@ def moved(plunges, pitch, x, y):
     for column, row, reach, depth in plunges:
         lines.append("stay" if reach == before else "change " + text_of(motions.rounded(2 * (2 * reach + 1) * motions.Fraction(pitch))))
         lines.append(f"travel {text_of(motions.travel(x, column, pitch))} {text_of(motions.travel(y, row, pitch))}")
-        lines.append("sink " + text_of(motions.sink(depth)))
+        lines.append("sink " + text_of(motions.sink(reach, depth)))
         before = reach
     return "".join(line + "\n" for line in lines).encode()
 

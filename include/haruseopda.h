@@ -137,8 +137,9 @@ typedef struct {
     double row_offset;
 } haru_scale;
 
-/* changed: 1 for a change to an electrode `width` wide, 0 for a stay (width is then 0). x, y: where to travel. sink: how deep. Millimetres; changed and all
- * four are 0 on a refusal. */
+/* changed: 1 for a change to an electrode `width` wide, 0 for a stay (width is then 0). x, y: where to travel. sink: how deep: the table's whole
+ * micrometres for the depth d, 20 * d + d * d / 64, and for reach 0 a tenth of them more, each rounded down. Millimetres; changed and all four are 0 on a
+ * refusal. */
 typedef struct {
     uint32_t number;
     uint32_t changed;

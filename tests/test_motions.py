@@ -1,5 +1,5 @@
 #!/usr/bin/env python3
-"""Makes crates/test_motions/stdin and the expected crates/test_motions/stdout, by document 01.
+"""Makes crates/test_motions/stdin and the expected crates/test_motions/stdout, by document 01 and document 02's N4.
 
     python3 tests/test_motions.py           writes both files
     python3 tests/test_motions.py --check   only compares: ends with 1 if a file differs
@@ -56,7 +56,8 @@ def motions(data, i, scale):
     changed = i == 0 or plunges[i - 1][2] != reach
     first = [("change", rounded(2 * (2 * reach + 1) * half))] if changed else [("stay",)]
     travel = [rounded(offset + rounded((2 * cell + 1) * half)) for offset, cell in ((across, x), (down, y))]
-    micrometres = 20 * depth + depth * depth // 64
+    entry = 20 * depth + depth * depth // 64
+    micrometres = entry * 11 // 10 if reach == 0 else entry
     return first + [("travel", *travel), ("sink", rounded(Fraction(micrometres, 1000)))]
 
 
@@ -122,7 +123,15 @@ def random_numbers():
         assert all(within(*ends, s) for ends, s in zip([(Fraction(1, 16), 4), (0, 1000), (0, 1000)], scale))
         add(one_plunge(x, y, reach, n + 1), 0, scale)
     for c in range(0, 240):
-        add(one_plunge(c, 239 - c, 0, 255), 0, (low + pick(high - low + 1), bits(pick(1000) + pick(1000) / 1000), bits(pick(10) / 10)))
+        add(one_plunge(c, 239 - c, 0, c + 1), 0, (low + pick(high - low + 1), bits(pick(1000) + pick(1000) / 1000), bits(pick(10) / 10)))
+
+
+def sinks():
+    """Every depth at reach 1, and at reach 0 those that no other record has."""
+    for depth in range(1, 256):
+        add(one_plunge(1, 1, 1, depth), 0)
+    for depth in range(241, 256):
+        add(one_plunge(1, 1, 0, depth), 0)
 
 
 def ends():
@@ -161,7 +170,7 @@ def bad_files():
 
 
 def main():
-    parts = (example, changes, random_numbers, ends, totals, bad_files)
+    parts = (example, changes, random_numbers, sinks, ends, totals, bad_files)
     sys.exit(int(stored("test_motions", RECORDS, parts, packed, printed)))
 
 

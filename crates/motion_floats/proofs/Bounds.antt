@@ -15,7 +15,8 @@ use lib.Ieee.Back.{round-whole}
 use lib.Ieee.Order.{round-mono}
 use lib.Ieee.Positive.{num, den, positive, den-pos, own-value, value→cross, positive-of-value, le→cross, cross→le, values-of-le, between, mul-at}
 use Rattle.geometry.specs.declared.Plunge.{Plunge}
-use Rattle.sink.specs.Sink.{micrometres, whole, sinkMillimetres}
+use Rattle.sink.specs.Sink.{micrometres, sinkMicrometres, whole, sinkMillimetres}
+use Rattle.sink.proofs.Sinks.{entry-least, sink-most}
 use Rattle.motion_floats.specs.declared.Scale.{Scale}
 use Rattle.motion_floats.specs.declared.Motion.{Motion}
 use Rattle.motion_floats.specs.declared.Motion.the-variants.{Change, Stay, Travel, Sink}
@@ -81,7 +82,7 @@ between-printable h (fin false m e) H b =
 
 -- ---- a whole number
 
-whole-value : (n : ℕ) → n ≤ 2 ^ 53 → HasValue (whole n) false n 1
+pub whole-value : (n : ℕ) → n ≤ 2 ^ 53 → HasValue (whole n) false n 1
 unfolding ofInt
 whole-value n h = round-whole binary64 false n h
 
@@ -210,22 +211,31 @@ thousandth n a c lo hi e =
     let t : n * c ≤ 8000 * c = mul-le-mul-right c hi in
     (omega arith, omega arith)
 
-thousand-pos : (c : ℕ) → 0 < c → 0 < 1000 * c
+pub thousand-pos : (c : ℕ) → 0 < c → 0 < 1000 * c
 thousand-pos c h = omega arith
+
+-- what is rounded: the number's own fraction over 1000
+pub thousandths : (n : ℕ) → 1 ≤ n → n ≤ 2 ^ 53
+    → div binary64 (whole n) (whole 1000) ≡ round binary64 false (num (whole n) * 1) (1000 * den (whole n))
+thousandths n lo hi =
+    ap (λ (y : Float). div binary64 (whole n) y) thousand-is ∙ div-is (whole n) (positive-of-value (whole n) n 1 (whole-value n hi) lo)
 
 quotient : (n : ℕ) → 20 ≤ n → n ≤ 8000 → Between 8 (div binary64 (whole n) (whole 1000))
 quotient n lo hi =
-    let v : HasValue (whole n) false n 1 = whole-value n (omega arith) in
-    let p : T (positive (whole n)) = positive-of-value (whole n) n 1 v (omega arith) in
-    let t = thousandth n (num (whole n)) (den (whole n)) lo hi (value→cross (whole n) n 1 v) in
-    subst (λ (z : Float). Between 8 z) (sym (ap (λ (y : Float). div binary64 (whole n) y) thousand-is ∙ div-is (whole n) p))
+    let l : n ≤ 2 ^ 53 = omega arith in
+    let t = thousandth n (num (whole n)) (den (whole n)) lo hi (value→cross (whole n) n 1 (whole-value n l)) in
+    subst (λ (z : Float). Between 8 z) (sym (thousandths n (omega arith) l))
     (rounded 8 (num (whole n) * 1) (1000 * den (whole n)) (lit< tt) (lit≤ tt) (thousand-pos (den (whole n)) (den-pos (whole n))) (t .0) (t .1))
 
-least-sink : (d : ℕ) → 1 ≤ d → 20 ≤ micrometres d
-least-sink d h = omega arith
+pub least-sink : (reach d : ℕ) → 1 ≤ d → 20 ≤ sinkMicrometres reach d
+least-sink reach d h = let l : 20 ≤ micrometres d = omega arith in le-trans l (entry-least reach (micrometres d))
 
-most-sink : (d : ℕ) → d < 256 → micrometres d ≤ 8000
-most-sink d h = let l : d ≤ 255 = omega arith in let s : d * d ≤ 255 * 255 = mul-le-mul l l in omega arith
+pub most-sink : (reach d : ℕ) → d < 256 → sinkMicrometres reach d ≤ 8000
+most-sink reach d h =
+    let l : d ≤ 255 = omega arith in
+    let s : d * d ≤ 255 * 255 = mul-le-mul l l in
+    let m : sinkMicrometres 0 d ≤ 8000 = omega arith in
+    le-trans (sink-most reach d) m
 
 -- ---- the motions
 
@@ -246,8 +256,9 @@ travel-printable p offset cell e o h =
     (subst (λ (x : Float). T (le offset x)) thousand-is (test (le offset (whole 1000)) (w .1)))
     (product (2 * cell + 1) p (omega arith) (omega arith) e))
 
-pub sink-printable : (d : ℕ) → 1 ≤ d → d < 256 → printable (sinkMillimetres d) ≡ true
-sink-printable d h g = between-printable 8 (sinkMillimetres d) (lit< tt) (quotient (micrometres d) (least-sink d h) (most-sink d g))
+pub sink-printable : (reach d : ℕ) → 1 ≤ d → d < 256 → printable (sinkMillimetres reach d) ≡ true
+sink-printable reach d h g =
+    between-printable 8 (sinkMillimetres reach d) (lit< tt) (quotient (sinkMicrometres reach d) (least-sink reach d h) (most-sink reach d g))
 
 -- every number that a motion carries is printable
 abbrev pub printableMotion : Motion → Bool
@@ -269,7 +280,7 @@ motions-printable s changed q e r x y d d' =
       first changed (change-printable s (q .reach .0) e r),
       rw (travel-printable (s .«half_pitch») (s .«column_offset») (q .column) (w .0) (v .0) x)
           (travel-printable (s .«half_pitch») (s .«row_offset») (q .row) (w .0) (v .1) y),
-      sink-printable (q .depth) d d',
+      sink-printable (q .reach .0) (q .depth) d d',
     )
   where
     first : (b : Bool) → printable (changeWidth s (q .reach .0)) ≡ true → printableMotion (cond b (Change (changeWidth s (q .reach .0))) Stay) ≡ true

@@ -1,3 +1,4 @@
 pub mod Literals
 pub mod Ranges
 pub mod Bounds
+pub mod Rising

@@ -41,5 +41,5 @@ motionsOf s changed q =
     record {
       first = cond changed (Change (changeWidth s (q .reach .0))) Stay;
       second = Travel (travelTo (s .«half_pitch») (s .«column_offset») (q .column)) (travelTo (s .«half_pitch») (s .«row_offset») (q .row));
-      third = Sink (sinkMillimetres (q .depth));
+      third = Sink (sinkMillimetres (q .reach .0) (q .depth));
     }

@@ -85,7 +85,7 @@ pub fn motions_of(scale: Scale, changed: bool, q: Plunge) -> Motions
     let first = change_or_stay(scale, changed, q.reach.0);
     let x = travel_to(half, scale.column_offset, q.column);
     let y = travel_to(half, scale.row_offset, q.row);
-    let z = sink::sink_of(q.depth);
+    let z = sink::sink_of(q.reach.0, q.depth);
     Motions {
         first,
         second: Motion::Travel(x, y),

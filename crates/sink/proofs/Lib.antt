@@ -1,3 +1,4 @@
 pub mod Entries
 pub mod Table
+pub mod Sinks
 pub mod Literals

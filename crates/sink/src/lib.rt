@@ -1,6 +1,6 @@
-// How deep the press sinks for each depth of a relief.
+// How deep the press sinks for a plunge, by its reach and depth.
 ghost use mathlib.Core.Path.{_≡_};
-ghost use Rattle.sink.specs.Sink.{micrometres, sinkMillimetres};
+ghost use Rattle.sink.specs.Sink.{micrometres, plungeSink, sinkMillimetres};
 
 // Whole micrometres for each depth: 20 a step, and the square's 64th, rounded down.
 pub const SINK: [u16; 256] = [
@@ -269,9 +269,18 @@ pub fn sink_at(depth: u8) -> u16
     SINK[depth as usize]
 }
 
-// The same in millimetres, rounded once.
-pub fn sink_of(depth: u8) -> f64
-    ensures { λ r. ⌜ r ≡ sinkMillimetres depth ⌝ }
+// Whole micrometres of a plunge with this table entry, whatever the table: electrodes of a single cell wear faster and sink a tenth more, rounded down.
+pub fn plunge_sink(reach: u16, entry: u16) -> u32
+    ensures { λ r. ⌜ r ≡ plungeSink reach entry ⌝ }
 {
-    (sink_at(depth) as f64) / 1000.0
+    let micrometres = entry as u32;
+    let tenth = if reach == 0 { micrometres / 10 } else { 0 };
+    micrometres + tenth
+}
+
+// A plunge's sink in millimetres, rounded once.
+pub fn sink_of(reach: u16, depth: u8) -> f64
+    ensures { λ r. ⌜ r ≡ sinkMillimetres reach depth ⌝ }
+{
+    (plunge_sink(reach, sink_at(depth)) as f64) / 1000.0
 }
