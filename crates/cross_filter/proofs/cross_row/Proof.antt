@@ -18,10 +18,14 @@ cast-width : tie.Need-cast-width
 cast-width c = search needs
 
 mul-cross-run : tie.Need-mul-cross-run
-mul-cross-run c = let s = c .before .before .before .before in omega (arith, stretch s)
+mul-cross-run c =
+    let at-start = c .before .before .before .before in
+    omega (arith, stretch at-start)
 
 add-cross-run : tie.Need-add-cross-run
-add-cross-run c = let s = c .before .before .before .before in omega (arith, stretch s)
+add-cross-run c =
+    let at-start = c .before .before .before .before in
+    omega (arith, stretch at-start)
 
 mul-cross-run-2 : tie.Need-mul-cross-run-2
 mul-cross-run-2 c = search needs
@@ -31,12 +35,12 @@ sub-cross-run c = search needs
 
 cross-run-requires : tie.Need-cross-run-requires
 cross-run-requires c κs =
-    let s = c .before .before .before .before in
+    let at-start = c .before .before .before .before in
     record {
-      some = omega (arith, s .pre .columns);
-      narrow = omega (arith, s .pre .sides .narrow);
-      size = s .pre .size;
-      room = omega (arith, stretch s);
+      some = omega (arith, at-start .pre .columns);
+      narrow = omega (arith, at-start .pre .sides .narrow);
+      size = at-start .pre .size;
+      room = omega (arith, stretch at-start);
     }
 
 same-length : tie.Need-same-length

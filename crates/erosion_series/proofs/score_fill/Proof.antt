@@ -52,8 +52,8 @@ loop-holds c =
 step-pair-requires : tie.Need-step-pair-requires Inv-loop μ-loop
 step-pair-requires c κs =
     let at-loop = c .before .before .before in
-    let at-start =
-    at-loop .before .before .before .before .before .before .before .before .before .before .before .before .before .before .before in
+    let at-zero-run = at-loop .before .before .before .before .before .before .before in
+    let at-start = at-zero-run .before .before .before .before .before .before .before .before in
     eroding-asks _ _ _ _ _ _ _ (at-loop .loop .inv .2) (omega arith) (at-start .pre .series .wide)
 
 add-k : tie.Need-add-k Inv-loop μ-loop
@@ -72,8 +72,8 @@ residue-pair-requires c κs =
 same-length : tie.Need-same-length Inv-loop μ-loop
 same-length c =
     let at-residue-pair = c .before .before .before in
-    let at-loop =
-    at-residue-pair .before .before .before .before .before .before .before .before .before .before .before .before in
+    let at-step-pair = at-residue-pair .before .before .before .before .before .before .before .before in
+    let at-loop = at-step-pair .before .before .before .before in
     let at-zero-run = at-loop .before .before .before .before .before .before .before in
     pair-scored-kept _ _ _ _ _ _ _ (at-residue-pair .residue-pair .ensures) .0 ∙ at-loop .loop .inv .3 .same ∙
     at-zero-run .zero-run .ensures .same
@@ -123,8 +123,8 @@ loop-again c =
     let at-residue-pair = c .before .before .before in
     let at-step-pair = at-residue-pair .before .before .before .before .before .before .before .before in
     let at-loop = at-step-pair .before .before .before .before in
-    let at-shared-slice-known =
-    at-loop .before .before .before .before .before .before .before .before .before .before .before .before .before .before in
+    let at-zero-run = at-loop .before .before .before .before .before .before .before in
+    let at-shared-slice-known = at-zero-run .before .before .before .before .before .before .before in
     let t = eroding-more _ _ _ _ _ _ _ (at-loop .loop .inv .2) _ _ _ (at-step-pair .step-pair .ensures) in (
       omega arith,
       refl,

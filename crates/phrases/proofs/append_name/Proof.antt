@@ -24,7 +24,9 @@ append-byte-requires : tie.Need-append-byte-requires Inv-loop μ-loop
 append-byte-requires c κs = let at-loop = c .before .before .before in at-loop .loop .inv .counted .0
 
 add-i : tie.Need-add-i Inv-loop μ-loop
-add-i c = let at-loop-test = c .before .before .before .before .before in omega (arith, at-loop-test .loop-test .taken)
+add-i c =
+    let at-loop-test = c .before .before .before .before .before in
+    omega (arith, at-loop-test .loop-test .taken)
 
 loop-less : tie.Need-loop-less Inv-loop μ-loop
 loop-less c =

@@ -36,7 +36,9 @@ add-count c =
     )
 
 add-i : tie.Need-add-i Inv-loop μ-loop
-add-i c = let at-start = c .before .before .before .before in omega (arith, at-start .pre .within)
+add-i c =
+    let at-start = c .before .before .before .before in
+    omega (arith, at-start .pre .within)
 
 loop-less : tie.Need-loop-less Inv-loop μ-loop
 loop-less c = omega arith

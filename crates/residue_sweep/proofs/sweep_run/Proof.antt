@@ -31,7 +31,9 @@ window-min-requires : tie.Need-window-min-requires Inv-loop μ-loop
 window-min-requires c κs = search needs
 
 slice-read-mark : tie.Need-slice-read-mark Inv-loop μ-loop
-slice-read-mark c = let at-loop = c .before .before .before .before in omega (arith, at-loop .loop .inv .1 .next .same)
+slice-read-mark c =
+    let at-loop = c .before .before .before .before in
+    omega (arith, at-loop .loop .inv .1 .next .same)
 
 window-max-requires : tie.Need-window-max-requires Inv-loop μ-loop
 window-max-requires c κs = search needs

@@ -96,15 +96,15 @@ filter-row-requires-2 c κs =
 add-y-2 : tie.Need-add-y-2 Inv-loop μ-loop
 add-y-2 c =
     let at-if1 = c .before .before .before .before .before .before .before in
-    let at-start =
-    at-if1 .before .before .before .before .before .before .before .before .before .before .before .before .before .before .before in
+    let at-loop = at-if1 .before .before .before .before .before .before .before .before .before in
+    let at-start = at-loop .before .before .before .before .before .before in
     omega (arith, at-start .pre .0 .sides .low, at-if1 .if1 .left)
 
 add-if2 : tie.Need-add-if2 Inv-loop μ-loop
 add-if2 c =
     let at-if1 = c .before .before .before .before .before .before .before in
-    let at-start =
-    at-if1 .before .before .before .before .before .before .before .before .before .before .before .before .before .before .before in
+    let at-loop = at-if1 .before .before .before .before .before .before .before .before .before in
+    let at-start = at-loop .before .before .before .before .before .before in
     omega (arith, at-start .pre .0 .sides .low, at-if1 .if1 .left)
 
 same-length-2 : tie.Need-same-length-2 Inv-loop μ-loop

@@ -18,10 +18,14 @@ cast-width : tie.Need-cast-width
 cast-width c = search needs
 
 mul-square-run : tie.Need-mul-square-run
-mul-square-run c = let s = c .before .before .before .before in omega (arith, stretch s)
+mul-square-run c =
+    let at-start = c .before .before .before .before in
+    omega (arith, stretch at-start)
 
 add-square-run : tie.Need-add-square-run
-add-square-run c = let s = c .before .before .before .before in omega (arith, stretch s)
+add-square-run c =
+    let at-start = c .before .before .before .before in
+    omega (arith, stretch at-start)
 
 mul-square-run-2 : tie.Need-mul-square-run-2
 mul-square-run-2 c = search needs
@@ -31,12 +35,12 @@ sub-square-run c = search needs
 
 square-run-requires : tie.Need-square-run-requires
 square-run-requires c κs =
-    let s = c .before .before .before .before in
+    let at-start = c .before .before .before .before in
     record {
-      some = omega (arith, s .pre .columns);
-      narrow = omega (arith, s .pre .sides .narrow);
-      size = s .pre .size;
-      room = stretch s;
+      some = omega (arith, at-start .pre .columns);
+      narrow = omega (arith, at-start .pre .sides .narrow);
+      size = at-start .pre .size;
+      room = stretch at-start;
     }
 
 same-length : tie.Need-same-length
