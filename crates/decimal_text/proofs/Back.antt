@@ -9,7 +9,7 @@ use lib.Dec.{eqb, leb, lit<, lit≤}
 use lib.Pow.{pow-add, pow-pos, pow-mono}
 use lib.Ieee.{binary64, odd, round, ofFields, ofBits}
 use Rattle.decimal_text.specs.declared.Digits.{Digits}
-use Rattle.decimal_text.specs.Digits.{sizeIn, partsOf}
+use Rattle.decimal_text.specs.Digits.{one, sizeIn, quarterGap, halfGap, partsOf}
 use Rattle.decimal_text.specs.Text.{partsIn}
 use Rattle.decimal_text.specs.Shortest.{Shortest}
 use Rattle.decimal.proofs.Scans.{ten-pos}
@@ -20,45 +20,45 @@ use Rattle.decimal_text.proofs.Nearest.{round-at, units-odd, odd-same, 
 
 -- a quarter of the distance between the floats of a field, times a denominator, in parts of the smallest float
 abbrev quarter : ℕ → ℕ → ℕ
-quarter field B = 2 ^ (field - 1017) * B * 2 ^ 1014
+quarter field B = quarterGap field * B * 2 ^ 1010
 
-power-is : (a B g : ℕ) → B * (g * 2 ^ (a + 1014)) ≡ 2 ^ a * (g * B * 2 ^ 1014)
-power-is a B g = rw (pow-add 2 a 1014) (simp (mul-assoc, mul-comm, mul-left-comm))
+power-is : (a B g : ℕ) → B * (g * 2 ^ (a + 1010)) ≡ 2 ^ a * (g * B * 2 ^ 1010)
+power-is a B g = rw (pow-add 2 a 1010) (simp (mul-assoc, mul-comm, mul-left-comm))
 
-module _ (field B : ℕ) (least : 1017 ≤ field) where
+module _ (field B : ℕ) (least : 1013 ≤ field) where
   step-is : B * 2 ^ (field - 1) ≡ 4 * quarter field B
   step-is =
-      let e : field - 1 ≡ field - 1017 + (2 + 1014) = omega arith in
-      rw (e, pow-add 2 (field - 1017) (2 + 1014)) (power-is 2 B (2 ^ (field - 1017)))
+      let e : field - 1 ≡ field - 1013 + (2 + 1010) = omega arith in
+      rw (e, pow-add 2 (field - 1013) (2 + 1010)) (power-is 2 B (quarterGap field))
 
   half-step-is : B * 2 ^ (field - 2) ≡ 2 * quarter field B
   half-step-is =
-      let e : field - 2 ≡ field - 1017 + (1 + 1014) = omega arith in
-      rw (e, pow-add 2 (field - 1017) (1 + 1014)) (power-is 1 B (2 ^ (field - 1017)))
+      let e : field - 2 ≡ field - 1013 + (1 + 1010) = omega arith in
+      rw (e, pow-add 2 (field - 1013) (1 + 1010)) (power-is 1 B (quarterGap field))
 
   quarter-pos : 0 < B → 0 < quarter field B
-  quarter-pos P = mul-pos (mul-pos (pow-pos (field - 1017)) P) (pow-pos 1014)
+  quarter-pos P = mul-pos (mul-pos (pow-pos (field - 1013)) P) (pow-pos 1010)
 
 regroup : (m g B s : ℕ) → m * (4 * g) * B * s ≡ m * (4 * (g * B * s))
 regroup m g B s = simp (mul-assoc, mul-left-comm)
 
-size-quarters : (field below B : ℕ) → 1017 ≤ field → field ≤ 1042 → sizeIn field below * B * 2 ^ 1014 ≡ (2 ^ 52 + below) * (4 * quarter field B)
+size-quarters : (field below B : ℕ) → 1013 ≤ field → field ≤ 1042 → sizeIn field below * B * 2 ^ 1010 ≡ (2 ^ 52 + below) * (4 * quarter field B)
 size-quarters field below B l m =
-    ap (λ (x : ℕ). (2 ^ 52 + below) * x * B * 2 ^ 1014) (sym (scale-is field l m)) ∙ regroup (2 ^ 52 + below) (2 ^ (field - 1017)) B (2 ^ 1014)
+    ap (λ (x : ℕ). (2 ^ 52 + below) * x * B * 2 ^ 1010) (sym (scale-is field l m)) ∙ regroup (2 ^ 52 + below) (quarterGap field) B (2 ^ 1010)
 
 -- a number within half of a float, times the denominator
-module _ (whole fraction half number B all : ℕ) (v : whole * 2 ^ 60 + fraction ≡ all) where
-  near-up : number * 2 ^ 60 < (fraction + half) * B → (whole * B + number) * 2 ^ 60 < all * B + half * B
-  near-up h = rw (← v) (omega (arith, h, add-mul fraction half B, add-mul (whole * 2 ^ 60) fraction B, mul-right-comm whole (2 ^ 60) B))
+module _ (whole fraction half number B all : ℕ) (v : whole * one + fraction ≡ all) where
+  near-up : number * one < (fraction + half) * B → (whole * B + number) * one < all * B + half * B
+  near-up h = rw (← v) (omega (arith, h, add-mul fraction half B, add-mul (whole * one) fraction B, mul-right-comm whole one B))
 
-  near-down : fraction * B < number * 2 ^ 60 + half * B → all * B < (whole * B + number) * 2 ^ 60 + half * B
-  near-down h = rw (← v) (omega (arith, h, add-mul (whole * 2 ^ 60) fraction B, mul-right-comm whole (2 ^ 60) B))
+  near-down : fraction * B < number * one + half * B → all * B < (whole * B + number) * one + half * B
+  near-down h = rw (← v) (omega (arith, h, add-mul (whole * one) fraction B, mul-right-comm whole one B))
 
-scaled : (N X H s : ℕ) → 0 < s → N * 2 ^ 60 < X + H → N * (2 ^ 60 * s) < X * s + H * s
-scaled N X H s S h = rw (← mul-assoc N (2 ^ 60) s, ← add-mul X H s) (mul-lt-mul-of-pos-right h S)
+scaled : (N X H s : ℕ) → 0 < s → N * one < X + H → N * (one * s) < X * s + H * s
+scaled N X H s S h = rw (← mul-assoc N one s, ← add-mul X H s) (mul-lt-mul-of-pos-right h S)
 
-scaled-down : (N X H s : ℕ) → 0 < s → X < N * 2 ^ 60 + H → X * s < N * (2 ^ 60 * s) + H * s
-scaled-down N X H s S h = rw (← mul-assoc N (2 ^ 60) s, ← add-mul (N * 2 ^ 60) H s) (mul-lt-mul-of-pos-right h S)
+scaled-down : (N X H s : ℕ) → 0 < s → X < N * one + H → X * s < N * (one * s) + H * s
+scaled-down N X H s S h = rw (← mul-assoc N one s, ← add-mul (N * one) H s) (mul-lt-mul-of-pos-right h S)
 
 -- ---- the rounding
 
@@ -109,11 +109,11 @@ shift-most field h = omega arith
 shift-less : (field : ℕ) → field ≤ 1042 → field - 2 ≤ 1041
 shift-less field h = omega arith
 
-next-shift : (field : ℕ) → 1017 ≤ field → suc (field - 2) ≡ field - 1
+next-shift : (field : ℕ) → 1013 ≤ field → suc (field - 2) ≡ field - 1
 next-shift field h = omega arith
 
 -- between two powers of two
-inner : (field below B N w : ℕ) → 0 < B → 1017 ≤ field → field ≤ 1042 → below < 2 ^ 52 → 0 < below → 0 < w → B * 2 ^ (field - 1) ≡ 4 * w
+inner : (field below B N w : ℕ) → 0 < B → 1013 ≤ field → field ≤ 1042 → below < 2 ^ 52 → 0 < below → 0 < w → B * 2 ^ (field - 1) ≡ 4 * w
     → N * 2 ^ 1074 < (2 ^ 52 + below) * (4 * w) + 2 * w → (2 ^ 52 + below) * (4 * w) < N * 2 ^ 1074 + 2 * w
     → round binary64 false N B ≡ odd 53 false (2 ^ 52 + below) (field - 1) 1074
 inner field below B N w P l m b z W u h k =
@@ -126,7 +126,7 @@ inner field below B N w P l m b z W u h k =
     ∙ odd-same (2 ^ 52 + below) (field - 1) (some-digits below) (few-digits below b)
 
 -- at a power of two, from above or from below
-outer : (field B N w : ℕ) → 0 < B → 1017 ≤ field → field ≤ 1042 → 0 < w → B * 2 ^ (field - 1) ≡ 4 * w → B * 2 ^ (field - 2) ≡ 2 * w
+outer : (field B N w : ℕ) → 0 < B → 1013 ≤ field → field ≤ 1042 → 0 < w → B * 2 ^ (field - 1) ≡ 4 * w → B * 2 ^ (field - 2) ≡ 2 * w
     → N * 2 ^ 1074 < 2 ^ 52 * (4 * w) + w → 2 ^ 52 * (4 * w) < N * 2 ^ 1074 + w
     → round binary64 false N B ≡ odd 53 false (2 ^ 52) (field - 1) 1074
 outer field B N w P l m W u v h k = go (leb (2 ^ 52 * (4 * w)) (N * 2 ^ 1074)) refl
@@ -167,7 +167,7 @@ of-fields (suc x) t p h =
 bits-below : (bits : ℕ) → bits / 2 ^ 52 ≤ 1042 → bits < 2 ^ 63
 bits-below bits h = omega arith
 
-fields-are : (bits : ℕ) → 1017 ≤ bits / 2 ^ 52 → bits / 2 ^ 52 ≤ 1042 → ofBits binary64 bits ≡ odd 53 false (2 ^ 52 + bits % 2 ^ 52) (bits / 2 ^ 52 - 1) 1074
+fields-are : (bits : ℕ) → 1013 ≤ bits / 2 ^ 52 → bits / 2 ^ 52 ≤ 1042 → ofBits binary64 bits ≡ odd 53 false (2 ^ 52 + bits % 2 ^ 52) (bits / 2 ^ 52 - 1) 1074
 unfolding ofBits
 fields-are bits l m =
     rw (lt-leb (2 ^ 63) bits (bits-below bits m), mod-eq-of-lt (bits-below bits m))
@@ -175,26 +175,26 @@ fields-are bits l m =
 
 -- ---- reading back
 
-module _ (field below whole fraction half number B : ℕ) (P : 0 < B) (least : 1017 ≤ field) (most : field ≤ 1042) (small : below < 2 ^ 52)
-    (v : whole * 2 ^ 60 + fraction ≡ sizeIn field below)
-    (up : number * 2 ^ 60 < (fraction + half) * B) (down : fraction * B < number * 2 ^ 60 + half * B) where
-  above : (whole * B + number) * 2 ^ 1074 < (2 ^ 52 + below) * (4 * quarter field B) + half * B * 2 ^ 1014
+module _ (field below whole fraction half number B : ℕ) (P : 0 < B) (least : 1013 ≤ field) (most : field ≤ 1042) (small : below < 2 ^ 52)
+    (v : whole * one + fraction ≡ sizeIn field below)
+    (up : number * one < (fraction + half) * B) (down : fraction * B < number * one + half * B) where
+  above : (whole * B + number) * 2 ^ 1074 < (2 ^ 52 + below) * (4 * quarter field B) + half * B * 2 ^ 1010
   above =
       rw (← size-quarters field below B least most)
-      (scaled (whole * B + number) (sizeIn field below * B) (half * B) (2 ^ 1014) (pow-pos 1014)
+      (scaled (whole * B + number) (sizeIn field below * B) (half * B) (2 ^ 1010) (pow-pos 1010)
       (near-up whole fraction half number B (sizeIn field below) v up))
 
-  beneath : (2 ^ 52 + below) * (4 * quarter field B) < (whole * B + number) * 2 ^ 1074 + half * B * 2 ^ 1014
+  beneath : (2 ^ 52 + below) * (4 * quarter field B) < (whole * B + number) * 2 ^ 1074 + half * B * 2 ^ 1010
   beneath =
       rw (← size-quarters field below B least most)
-      (scaled-down (whole * B + number) (sizeIn field below * B) (half * B) (2 ^ 1014) (pow-pos 1014)
+      (scaled-down (whole * B + number) (sizeIn field below * B) (half * B) (2 ^ 1010) (pow-pos 1010)
       (near-down whole fraction half number B (sizeIn field below) v down))
 
-  rounds : half ≡ cond (eqb below 0) (2 ^ (field - 1017)) (2 * 2 ^ (field - 1017))
+  rounds : half ≡ halfGap field below
       → round binary64 false (whole * B + number) B ≡ odd 53 false (2 ^ 52 + below) (field - 1) 1074
   rounds e = go (eqb below 0) refl e
     where
-      go : (b : Bool) → eqb below 0 ≡ b → half ≡ cond b (2 ^ (field - 1017)) (2 * 2 ^ (field - 1017))
+      go : (b : Bool) → eqb below 0 ≡ b → half ≡ cond b (quarterGap field) (2 * quarterGap field)
           → round binary64 false (whole * B + number) B ≡ odd 53 false (2 ^ 52 + below) (field - 1) 1074
       go true z h =
           let o : below ≡ 0 = eqb-true below 0 z in
@@ -203,21 +203,21 @@ module _ (field below whole fraction half number B : ℕ) (P : 0 < B) (least : 1
           (rw (o, h) at above)
           (rw (o, h) at beneath))
       go false z h =
-          let q : 2 * 2 ^ (field - 1017) * B * 2 ^ 1014 ≡ 2 * quarter field B =
-          rw (mul-assoc 2 (2 ^ (field - 1017)) B, mul-assoc 2 (2 ^ (field - 1017) * B) (2 ^ 1014)) in
+          let q : 2 * quarterGap field * B * 2 ^ 1010 ≡ 2 * quarter field B =
+          rw (mul-assoc 2 (quarterGap field) B, mul-assoc 2 (quarterGap field * B) (2 ^ 1010)) in
           inner field below B (whole * B + number) (quarter field B) P least most small (positive below (eqb-false below 0 z))
           (quarter-pos field B least P) (step-is field B least)
           (rw (h, q) at above)
           (rw (h, q) at beneath)
 
 -- the shortest decimal of the float with these bits reads back as it
-pub reads-back : (bits : ℕ) (d : Digits) → 1017 ≤ bits / 2 ^ 52 → bits / 2 ^ 52 ≤ 1042 → Shortest (partsIn bits .fraction) (partsIn bits .half) d
+pub reads-back : (bits : ℕ) (d : Digits) → 1013 ≤ bits / 2 ^ 52 → bits / 2 ^ 52 ≤ 1042 → Shortest (partsIn bits .fraction) (partsIn bits .half) d
     → round binary64 false (partsIn bits .whole * 10 ^ d .count + d .number) (10 ^ d .count) ≡ ofBits binary64 bits
 unfolding partsOf
 reads-back bits d l m s =
     rounds (bits / 2 ^ 52) (bits % 2 ^ 52)
     (partsIn bits .whole) (partsIn bits .fraction) (partsIn bits .half) (d .number) (10 ^ d .count)
     (ten-pos (d .count)) l m (mod-lt bits (lit< tt))
-    (div-add-mod' (sizeIn (bits / 2 ^ 52) (bits % 2 ^ 52)) (2 ^ 60))
+    (div-add-mod' (sizeIn (bits / 2 ^ 52) (bits % 2 ^ 52)) one)
     (s .within .0) (s .within .1) refl
     ∙ sym (fields-are bits l m)

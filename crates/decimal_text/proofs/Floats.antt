@@ -24,15 +24,15 @@ use Rattle.decimal_text.proofs.Ranges.{nan-out, range-is}
 
 -- ---- by the exponent field
 
-pub bits-below : (bits : ℕ) → bits / 2 ^ 52 < 1017 → bitsText bits ≡ hexadecimal bits
-bits-below bits h = rw (lt-leb 1017 (bits / 2 ^ 52) h)
+pub bits-below : (bits : ℕ) → bits / 2 ^ 52 < 1013 → bitsText bits ≡ hexadecimal bits
+bits-below bits h = rw (lt-leb 1013 (bits / 2 ^ 52) h)
 
-pub bits-above : (bits : ℕ) → 1017 ≤ bits / 2 ^ 52 → 1042 < bits / 2 ^ 52 → bitsText bits ≡ hexadecimal bits
-bits-above bits l h = rw (le-leb 1017 (bits / 2 ^ 52) l, lt-leb (bits / 2 ^ 52) 1042 h)
+pub bits-above : (bits : ℕ) → 1013 ≤ bits / 2 ^ 52 → 1042 < bits / 2 ^ 52 → bitsText bits ≡ hexadecimal bits
+bits-above bits l h = rw (le-leb 1013 (bits / 2 ^ 52) l, lt-leb (bits / 2 ^ 52) 1042 h)
 
-pub bits-within : (bits : ℕ) (parts : Parts) (d : Digits) → 1017 ≤ bits / 2 ^ 52 → bits / 2 ^ 52 ≤ 1042 → parts ≡ partsIn bits
+pub bits-within : (bits : ℕ) (parts : Parts) (d : Digits) → 1013 ≤ bits / 2 ^ 52 → bits / 2 ^ 52 ≤ 1042 → parts ≡ partsIn bits
     → d ≡ shortestDigits (parts .fraction) (parts .half) → bitsText bits ≡ textOf (parts .whole) d
-bits-within bits parts d l h e f = rw (le-leb 1017 (bits / 2 ^ 52) l, le-leb (bits / 2 ^ 52) 1042 h, f, e)
+bits-within bits parts d l h e f = rw (le-leb 1013 (bits / 2 ^ 52) l, le-leb (bits / 2 ^ 52) 1042 h, f, e)
 
 -- ---- whether a float is a number
 
@@ -56,11 +56,11 @@ number-bits x e = rw (is-number x e, range-is x (is-number x e))
 
 -- ---- what the text means
 
-fields-both : (field : ℕ) → inFields field ≡ true → (1017 ≤ field) × (field ≤ 1042)
-fields-both field e = go (leb 1017 field) refl e
+fields-both : (field : ℕ) → inFields field ≡ true → (1013 ≤ field) × (field ≤ 1042)
+fields-both field e = go (leb 1013 field) refl e
   where
-    go : (b : Bool) → leb 1017 field ≡ b → cond b (leb field 1042) false ≡ true → (1017 ≤ field) × (field ≤ 1042)
-    go true h e = (leb-true 1017 field h, leb-true field 1042 e)
+    go : (b : Bool) → leb 1013 field ≡ b → cond b (leb field 1042) false ≡ true → (1013 ≤ field) × (field ≤ 1042)
+    go true h e = (leb-true 1013 field h, leb-true field 1042 e)
     go false h e = absurd (true≢false (sym e))
 
 range-number : (x : Float) → inDecimalRange x ≡ true → isNan x ≡ false
@@ -70,7 +70,7 @@ range-number x i = go (isNan x) refl
     go false e = refl
     go true e = absurd (true≢false (sym i ∙ nan-out x e))
 
-pub range-fields : (x : Float) → inDecimalRange x ≡ true → (1017 ≤ toBits binary64 x / 2 ^ 52) × (toBits binary64 x / 2 ^ 52 ≤ 1042)
+pub range-fields : (x : Float) → inDecimalRange x ≡ true → (1013 ≤ toBits binary64 x / 2 ^ 52) × (toBits binary64 x / 2 ^ 52 ≤ 1042)
 range-fields x i = fields-both (toBits binary64 x / 2 ^ 52) (sym (range-is x (range-number x i)) ∙ i)
 
 pub range-text : (x : Float) → inDecimalRange x ≡ true → numberText x ≡ decimalText (partsIn (toBits binary64 x))

@@ -1,4 +1,4 @@
--- The floats from 2^-6 to below 2^20 are those with certain exponent fields.
+-- The floats from 2^-10 to below 2^20 are those with certain exponent fields.
 use mathlib.Core.Path.{_≡_, refl, sym, ap, ap₂, _∙_}
 use mathlib.Core.Logic.{inl, inr}
 use mathlib.Core.Bool.{Bool, true, false, cond, _&&_, _||_, true≢false}
@@ -34,17 +34,17 @@ less-or-same a b = go (leb a b) refl
 -- ---- the field of a size n, in parts of the smallest float
 
 -- k digits dropped, v kept
-field-below : (k v : ℕ) → k ≤ 1015 → v < 2 ^ 53 → inFields ((0 + k * 2 ^ 52 + v) / 2 ^ 52) ≡ false
-field-below k v h l = rw (lt-leb 1017 ((0 + k * 2 ^ 52 + v) / 2 ^ 52) (omega arith))
+field-below : (k v : ℕ) → k ≤ 1011 → v < 2 ^ 53 → inFields ((0 + k * 2 ^ 52 + v) / 2 ^ 52) ≡ false
+field-below k v h l = rw (lt-leb 1013 ((0 + k * 2 ^ 52 + v) / 2 ^ 52) (omega arith))
 
 field-above : (k v : ℕ) → 1042 ≤ k → 2 ^ 52 ≤ v → inFields ((0 + k * 2 ^ 52 + v) / 2 ^ 52) ≡ false
-field-above k v h l = rw (le-leb 1017 ((0 + k * 2 ^ 52 + v) / 2 ^ 52) (omega arith), lt-leb ((0 + k * 2 ^ 52 + v) / 2 ^ 52) 1042 (omega arith))
+field-above k v h l = rw (le-leb 1013 ((0 + k * 2 ^ 52 + v) / 2 ^ 52) (omega arith), lt-leb ((0 + k * 2 ^ 52 + v) / 2 ^ 52) 1042 (omega arith))
 
-field-within : (k v : ℕ) → 1016 ≤ k → k ≤ 1041 → 2 ^ 52 ≤ v → v < 2 ^ 53 → inFields ((0 + k * 2 ^ 52 + v) / 2 ^ 52) ≡ true
-field-within k v h g l m = rw (le-leb 1017 ((0 + k * 2 ^ 52 + v) / 2 ^ 52) (omega arith), le-leb ((0 + k * 2 ^ 52 + v) / 2 ^ 52) 1042 (omega arith))
+field-within : (k v : ℕ) → 1012 ≤ k → k ≤ 1041 → 2 ^ 52 ≤ v → v < 2 ^ 53 → inFields ((0 + k * 2 ^ 52 + v) / 2 ^ 52) ≡ true
+field-within k v h g l m = rw (le-leb 1013 ((0 + k * 2 ^ 52 + v) / 2 ^ 52) (omega arith), le-leb ((0 + k * 2 ^ 52 + v) / 2 ^ 52) 1042 (omega arith))
 
 field-negative : (a b : ℕ) → inFields ((2 ^ 63 + a + b) / 2 ^ 52) ≡ false
-field-negative a b = rw (le-leb 1017 ((2 ^ 63 + a + b) / 2 ^ 52) (omega arith), lt-leb ((2 ^ 63 + a + b) / 2 ^ 52) 1042 (omega arith))
+field-negative a b = rw (le-leb 1013 ((2 ^ 63 + a + b) / 2 ^ 52) (omega arith), lt-leb ((2 ^ 63 + a + b) / 2 ^ 52) 1042 (omega arith))
 
 dropped-most : (z j : ℕ) → z ≤ j + 53 → z - 53 ≤ j
 dropped-most z j h = omega arith
@@ -68,27 +68,27 @@ bitsOf n = 0 + (size n - 53) * 2 ^ 52 + n / 2 ^ (size n - 53)
 enough : (j z : ℕ) → j + 53 ≤ z → 53 ≤ z
 enough j z h = omega arith
 
-field-is : (n : ℕ) → cond (leb (2 ^ 1068) n) (ltb n (2 ^ 1094)) false ≡ inFields (bitsOf n / 2 ^ 52)
-field-is n = go (leb (2 ^ 1068) n) refl (ltb n (2 ^ 1094)) refl
+field-is : (n : ℕ) → cond (leb (2 ^ 1064) n) (ltb n (2 ^ 1094)) false ≡ inFields (bitsOf n / 2 ^ 52)
+field-is n = go (leb (2 ^ 1064) n) refl (ltb n (2 ^ 1094)) refl
   where
-    go : (s : Bool) → leb (2 ^ 1068) n ≡ s → (t : Bool) → ltb n (2 ^ 1094) ≡ t → cond s t false ≡ inFields (bitsOf n / 2 ^ 52)
-    go false e t f = sym (field-below (size n - 53) (n / 2 ^ (size n - 53)) (dropped-most (size n) 1015 (size-le n 1068 (leb-false (2 ^ 1068) n e)))
+    go : (s : Bool) → leb (2 ^ 1064) n ≡ s → (t : Bool) → ltb n (2 ^ 1094) ≡ t → cond s t false ≡ inFields (bitsOf n / 2 ^ 52)
+    go false e t f = sym (field-below (size n - 53) (n / 2 ^ (size n - 53)) (dropped-most (size n) 1011 (size-le n 1064 (leb-false (2 ^ 1064) n e)))
         (kept-lt 53 n))
     go true e true f =
-        let g : 1016 + 53 ≤ size n = size-more n 1068 (leb-true (2 ^ 1068) n e) in
-        sym (field-within (size n - 53) (n / 2 ^ (size n - 53)) (dropped-least (size n) 1016 g)
-        (dropped-most (size n) 1041 (size-le n 1094 (ltb-true n (2 ^ 1094) f))) (kept-least n (enough 1016 (size n) g)) (kept-lt 53 n))
+        let g : 1012 + 53 ≤ size n = size-more n 1064 (leb-true (2 ^ 1064) n e) in
+        sym (field-within (size n - 53) (n / 2 ^ (size n - 53)) (dropped-least (size n) 1012 g)
+        (dropped-most (size n) 1041 (size-le n 1094 (ltb-true n (2 ^ 1094) f))) (kept-least n (enough 1012 (size n) g)) (kept-lt 53 n))
     go true e false f =
         let g : 1042 + 53 ≤ size n = size-more n 1094 (ltb-false n (2 ^ 1094) f) in
         sym (field-above (size n - 53) (n / 2 ^ (size n - 53)) (dropped-least (size n) 1042 g) (kept-least n (enough 1042 (size n) g)))
 
 -- ---- the order, in parts of the smallest float
 
-sixty-fourth : (X c : ℕ) → 0 < c → leb c (X * 64) ≡ leb (2 ^ 1068) (X * 2 ^ 1074 / c)
-sixty-fourth X c C =
-    leb-same c (X * 64) (2 ^ 1068) (X * 2 ^ 1074 / c)
-    (λ h. le-div-iff-mul-le C .1 (rw (mul-comm (2 ^ 1068) c, ← mul-assoc X 64 (2 ^ 1068)) (mul-le-mul-right (2 ^ 1068) h)))
-    (λ h. le-of-mul-le-mul-right (rw (mul-assoc X 64 (2 ^ 1068), mul-comm c (2 ^ 1068)) (le-div-iff-mul-le C .0 h)) (pow-pos 1068))
+thousandth : (X c : ℕ) → 0 < c → leb c (X * 1024) ≡ leb (2 ^ 1064) (X * 2 ^ 1074 / c)
+thousandth X c C =
+    leb-same c (X * 1024) (2 ^ 1064) (X * 2 ^ 1074 / c)
+    (λ h. le-div-iff-mul-le C .1 (rw (mul-comm (2 ^ 1064) c, ← mul-assoc X 1024 (2 ^ 1064)) (mul-le-mul-right (2 ^ 1064) h)))
+    (λ h. le-of-mul-le-mul-right (rw (mul-assoc X 1024 (2 ^ 1064), mul-comm c (2 ^ 1064)) (le-div-iff-mul-le C .0 h)) (pow-pos 1064))
 
 million : (X c : ℕ) → 0 < c → ltb X (2 ^ 20 * c) ≡ ltb (X * 2 ^ 1074 / c) (2 ^ 1094)
 million X c C =
@@ -104,17 +104,17 @@ and-false false = refl
 not-zero : (c : ℕ) → 0 < c → 1 * c ≡ 0 → ⊥
 not-zero c C e = omega arith
 
-range-positive : (m : ℕ) (e : ℤ) → inDecimalRange (fin false m e) ≡ cond (leb (2 ^ 1068) (m * up e * 2 ^ 1074 / down e))
+range-positive : (m : ℕ) (e : ℤ) → inDecimalRange (fin false m e) ≡ cond (leb (2 ^ 1064) (m * up e * 2 ^ 1074 / down e))
     (ltb (m * up e * 2 ^ 1074 / down e) (2 ^ 1094)) false
 unfolding le lt
 range-positive m e =
     ap₂ (λ (s t : Bool). cond s t false)
-    (less-or-same (1 * down e) (m * up e * 64) ∙ ap (λ (c : ℕ). leb c (m * up e * 64)) (one-mul (down e)) ∙ sixty-fourth (m * up e) (down e) (down-pos e))
+    (less-or-same (1 * down e) (m * up e * 1024) ∙ ap (λ (c : ℕ). leb c (m * up e * 1024)) (one-mul (down e)) ∙ thousandth (m * up e) (down e) (down-pos e))
     (ap (λ (a : ℕ). ltb a (2 ^ 20 * down e)) (mul-one (m * up e)) ∙ million (m * up e) (down e) (down-pos e))
 
 range-negative : (m : ℕ) (e : ℤ) → inDecimalRange (fin true m e) ≡ false
 unfolding le
-range-negative m e = rw (ne-eqb (1 * down e) 0 (not-zero (down e) (down-pos e)), and-false (eqb (1 * down e) (m * up e * 64)))
+range-negative m e = rw (ne-eqb (1 * down e) 0 (not-zero (down e) (down-pos e)), and-false (eqb (1 * down e) (m * up e * 1024)))
 
 field-minus : (n : ℕ) → inFields ((2 ^ 63 + (size n - 53) * 2 ^ 52 + n / 2 ^ (size n - 53)) / 2 ^ 52) ≡ false
 field-minus n = field-negative ((size n - 53) * 2 ^ 52) (n / 2 ^ (size n - 53))

@@ -16,6 +16,7 @@ use Rattle.numerals.specs.Sizes.{IsSize}
 use Rattle.numerals.proofs.Digits.{digits-length}
 use Rattle.numerals.proofs.Sizes.{numeral-digits, numeral-length}
 use Rattle.decimal_text.specs.declared.Digits.{Digits}
+use Rattle.decimal_text.specs.Digits.{mostDigits}
 use Rattle.decimal_text.specs.Text.{textOf, hexadecimal, notNumber, Put}
 
 -- ---- whether text fits
@@ -96,10 +97,10 @@ pub hexadecimal-same : (old new : List ℕ) (at bits : ℕ) → at + 18 ≤ leng
 hexadecimal-same old new at bits h e = ap length (hexadecimal-done old new at bits h e) ∙ splice-length old at (hexadecimal bits)
     (omega (arith, hexadecimal-length bits))
 
-pub tail-most : (tail count : ℕ) → tail ≡ cond (eqb count 0) 0 (1 + count) → count ≤ 18 → tail ≤ 19
+pub tail-most : (tail count : ℕ) → tail ≡ cond (eqb count 0) 0 (1 + count) → count ≤ mostDigits → tail ≤ 1 + mostDigits
 tail-most tail count e h = rw e (go (eqb count 0))
   where
-    go : (b : Bool) → cond b 0 (1 + count) ≤ 19
+    go : (b : Bool) → cond b 0 (1 + count) ≤ 1 + mostDigits
     go true = omega arith
     go false = omega arith
 

@@ -24,9 +24,9 @@ hexadecimal bits = 48 ∷ 120 ∷ digitText 16 16 bits
 abbrev pub notNumber : List ℕ
 notNumber = 110 ∷ 97 ∷ 110 ∷ []
 
--- from 2^-6 to below 2^20
+-- from 2^-10 to below 2^20
 abbrev pub inDecimalRange : Float → Bool
-inDecimalRange x = cond (le (fin false 1 (negsuc 5)) x) (lt x (fin false 1 (pos 20))) false
+inDecimalRange x = cond (le (fin false 1 (negsuc 9)) x) (lt x (fin false 1 (pos 20))) false
 
 -- the parts of the float with these bits, and their shortest decimal
 abbrev pub partsIn : ℕ → Parts

@@ -1,12 +1,12 @@
 // A float as the shortest decimal text, which read again is that float.
 ghost use mathlib.Core.Path.{_≡_};
 ghost use mathlib.Core.Bool.{cond};
-ghost use Prim.Native.Nat.{_+_, _*_, _^_, _≤_, _<_};
+ghost use Prim.Native.Nat.{_+_, _*_, _/_, _%_, _^_, _≤_, _<_};
 ghost use lib.Dec.{eqb, leb};
 ghost use lib.Ieee.Nearest.{closest};
-ghost use Rattle.decimal_text.specs.Digits.{partsOf, shortestDigits};
+ghost use Rattle.decimal_text.specs.Digits.{one, partsOf, mostDigits, shortestDigits};
 ghost use Rattle.decimal_text.specs.Text.{Put, textOf, hexadecimal, notNumber, numberText};
-ghost use Rattle.decimal_text.specs.Printing.{isFar, bitsText};
+ghost use Rattle.decimal_text.specs.Printing.{isFar, capped, bitsText};
 
 // What follows the point: a number of so many digits.
 pub struct Digits {
@@ -14,15 +14,24 @@ pub struct Digits {
     pub count: usize,
 }
 
-// A float's size, whole + fraction / 2^60, and half the distance to the nearest other float, over 2^60.
+// A float's size, whole + fraction / 2^64, and half the distance to the nearest other float, over 2^64.
 pub struct Parts {
     pub whole: u64,
     pub fraction: u64,
     pub half: u64,
 }
 
-// 2^60
-const ONE: u64 = 1152921504606846976;
+// The digit of a fraction that comes next, and what is left over, over 2^64.
+struct Step {
+    digit: u64,
+    rest: u64,
+}
+
+// A limb has 32 bits.
+const LIMB: u64 = 4294967296;
+
+// One half, over 2^64.
+const MIDDLE: u64 = 9223372036854775808;
 
 // The number of floats from a power of two to the next, 2^52.
 const STEPS: u64 = 4503599627370496;
@@ -36,18 +45,18 @@ fn power(n: u64) -> u64
 
 // Below a power of two the floats stand twice as close.
 fn half_gap(unit: u64, below: u64) -> u64
-    requires { ⌜ unit ≤ 2 ^ 25 ⌝ }
+    requires { ⌜ unit ≤ 2 ^ 29 ⌝ }
     ensures { λ r. ⌜ r ≡ cond (eqb below 0) unit (2 * unit) ⌝ }
 {
     if below == 0 { unit } else { 2 * unit }
 }
 
-// The float with this exponent field and these digits below the leading one, from 2^-6 to below 2^20.
+// The float with this exponent field and these digits below the leading one, from 2^-10 to below 2^20.
 fn parts_of(field: u64, below: u64) -> Parts
-    requires { ⌜ (1017 ≤ field) × (field ≤ 1042) × (below < 2 ^ 52) ⌝ }
+    requires { ⌜ (1013 ≤ field) × (field ≤ 1042) × (below < 2 ^ 52) ⌝ }
     ensures { λ r. ⌜ r ≡ partsOf field below ⌝ }
 {
-    let unit = power(field - 1017);
+    let unit = power(field - 1013);
     let cut = power(1075 - field);
     let size = STEPS + below;
     Parts {
@@ -59,33 +68,56 @@ fn parts_of(field: u64, below: u64) -> Parts
 
 // Whether no number of so many digits is within the margin.
 fn is_far(rest: u64, margin: u64) -> bool
-    requires { ⌜ rest < 2 ^ 60 ⌝ }
+    requires { ⌜ 0 < margin ⌝ }
     ensures { λ r. ⌜ r ≡ isFar rest margin ⌝ }
 {
     if margin <= rest {
-        margin <= ONE - rest
+        margin <= u64::MAX - rest + 1
     } else {
         false
     }
 }
 
+// Ten times the margin, or where that does not fit the largest number: nothing is as far.
+fn wider(margin: u64) -> u64
+    ensures { λ r. ⌜ r ≡ capped (10 * margin) ⌝ }
+{
+    if margin <= u64::MAX / 10 {
+        10 * margin
+    } else {
+        u64::MAX
+    }
+}
+
+// Ten times what is left over, limb by limb.
+fn next_digit(rest: u64) -> Step
+    ensures { λ r. ⌜ (r .digit ≡ 10 * rest / one) × (r .rest ≡ 10 * rest % one) ⌝ }
+{
+    let low = 10 * (rest % LIMB);
+    let high = 10 * (rest / LIMB) + low / LIMB;
+    Step {
+        digit: high / LIMB,
+        rest: high % LIMB * LIMB + low % LIMB,
+    }
+}
+
 // The nearer of number and the next one; of two as near, the even one.
 fn nearer(number: u64, rest: u64) -> u64
-    requires { ⌜ (rest < 2 ^ 60) × (number < 2 ^ 63) ⌝ }
-    ensures { λ r. ⌜ r ≡ closest (number * 2 ^ 60 + rest) (2 ^ 60) ⌝ }
+    requires { ⌜ number < 10 ^ mostDigits ⌝ }
+    ensures { λ r. ⌜ r ≡ closest (number * one + rest) one ⌝ }
 {
-    if 2 * rest < ONE {
+    if rest < MIDDLE {
         return number;
     }
-    if ONE < 2 * rest {
+    if MIDDLE < rest {
         return number + 1;
     }
     number + number % 2
 }
 
-// The fewest digits that stand for a fraction of 2^60 to within half, and of those the nearest.
+// The fewest digits that stand for a fraction over 2^64 to within half, and of those the nearest.
 fn digits_of(fraction: u64, half: u64) -> Digits
-    requires { ⌜ (0 < half) × (fraction < 2 ^ 60) ⌝ }
+    requires { ⌜ 0 < half ⌝ }
     ensures { λ r. ⌜ r ≡ shortestDigits fraction half ⌝ }
 {
     let mut rest = fraction;
@@ -93,9 +125,10 @@ fn digits_of(fraction: u64, half: u64) -> Digits
     let mut number = 0;
     let mut count: usize = 0;
     while is_far(rest, margin) {
-        number = 10 * number + 10 * rest / ONE;
-        rest = 10 * rest % ONE;
-        margin *= 10;
+        let step = next_digit(rest);
+        number = 10 * number + step.digit;
+        rest = step.rest;
+        margin = wider(margin);
         count += 1;
     }
     Digits {
@@ -125,7 +158,7 @@ fn has_room(length: usize, at: usize, bytes: usize) -> bool
 
 // Whole number, and after a point the fraction's digits, if there are any.
 fn put_parts(whole: u64, d: Digits, out: &mut [u8], at: usize) -> usize
-    requires { ⌜ d .count ≤ 18 ⌝ }
+    requires { ⌜ d .count ≤ mostDigits ⌝ }
     ensures { λ r. ⌜ Put (textOf whole d) (now (out .entry)) (now (out .exit)) at r ⌝ }
 {
     let size = numerals::digit_count(whole);
@@ -172,7 +205,7 @@ fn put_bits(bits: u64, out: &mut [u8], at: usize) -> usize
     ensures { λ r. ⌜ Put (bitsText bits) (now (out .entry)) (now (out .exit)) at r ⌝ }
 {
     let field = bits / STEPS;
-    if field < 1017 {
+    if field < 1013 {
         return put_hexadecimal(bits, out, at);
     }
     if 1042 < field {
@@ -183,7 +216,7 @@ fn put_bits(bits: u64, out: &mut [u8], at: usize) -> usize
     put_parts(parts.whole, d, out, at)
 }
 
-// From 2^-6 to below 2^20: the shortest decimal within half the distance to the nearest other float, which reads back as x.
+// From 2^-10 to below 2^20: the shortest decimal within half the distance to the nearest other float, which reads back as x.
 // Other floats, which the press never asks for: their bits in hexadecimal, or nan. What does not fit is not written.
 // Gives the place after the text.
 pub fn put_number(x: f64, out: &mut [u8], at: usize) -> usize

@@ -19,7 +19,7 @@ use Rattle.refusal.specs.Sides.{Sides}
 use Rattle.fields.specs.Fields.{encoded, fileLength}
 use Rattle.fields.proofs.Encoding.{encoded-length}
 use Rattle.reading.specs.Reading.{IsReadable, fileTrials, headIn, plungesIn}
-use Rattle.reading.proofs.Steps.{andThen, first-append}
+use Rattle.refusal.proofs.Trials.{andThen, first-append}
 use Rattle.reading.proofs.Readable.{Writable, encoded-plunges}
 use Rattle.listing_plunges.proofs.Plunges.{listing-few}
 use Rattle.listing.specs.declared.ListAnswer.{ListAnswer}

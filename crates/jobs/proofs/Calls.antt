@@ -21,7 +21,7 @@ use Rattle.refusal.specs.declared.Verdict.{Verdict}
 use Rattle.refusal.specs.declared.Verdict.the-variants.{Accepted, Refused}
 use Rattle.refusal.specs.Refusals.{Trial, firstMet, short, mapTrials, headOf, largestErosion, free, written, Answered, Worked}
 use Rattle.refusal.proofs.Refusals.{shortest-two, same-verdict, map-sound, answered-refused}
-use Rattle.reading.proofs.Steps.{andThen, first-append}
+use Rattle.refusal.proofs.Trials.{andThen, first-append}
 use Rattle.buffers.specs.Fill.{Mapped, PlateOnly}
 use Rattle.buffers.proofs.Fill.{mapped-bytes, surplus-drop}
 use Rattle.fields.specs.Fields.{encoded, fileLength, place}

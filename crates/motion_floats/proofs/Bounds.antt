@@ -1,4 +1,4 @@
--- Every number of a motion lies from 2^-6 to below 2^20, so that it is printed as the shortest decimal. The law holds for reaches below 512 and
+-- Every number of a motion lies from 2^-10 to below 2^20, so that it is printed as the shortest decimal. The law holds for reaches below 512 and
 -- columns and rows below 1024; those of a readable file are less.
 use mathlib.Core.Path.{_≡_, refl, sym, ap, _∙_, subst}
 use mathlib.Core.Bool.{Bool, true, false, cond, _||_, true≢false}
@@ -22,9 +22,9 @@ use Rattle.motion_floats.specs.declared.Motion.{Motion}
 use Rattle.motion_floats.specs.declared.Motion.the-variants.{Change, Stay, Travel, Sink}
 use Rattle.motion_floats.specs.Floats.{within, sixteenth, scaleInRange, changeWidth, travelTo, motionsOf}
 
--- from 2^-6 to below 2^20: the range of crates/decimal, `inDecimalRange`
+-- from 2^-10 to below 2^20: the range of crates/decimal, `inDecimalRange`
 abbrev pub printable : Float → Bool
-printable x = cond (le (fin false 1 (negsuc 5)) x) (lt x (fin false 1 (pos 20))) false
+printable x = cond (le (fin false 1 (negsuc 9)) x) (lt x (fin false 1 (pos 20))) false
 
 -- ---- tests
 
@@ -40,25 +40,25 @@ test : (b : Bool) → b ≡ true → T b
 test true e = tt
 test false e = absurd (true≢false (sym e))
 
--- ---- a float above zero from 1/64 to h
+-- ---- a float above zero from 1/1024 to h
 
 abbrev Between : ℕ → Float → Type 0
-Between h z = T (positive z) × (den z ≤ num z * 64) × (num z ≤ h * den z)
+Between h z = T (positive z) × (den z ≤ num z * 1024) × (num z ≤ h * den z)
 
 abbrev least : Float
-least = fin false 1 (negsuc 5)
+least = fin false 1 (negsuc 9)
 
-least-is : round binary64 false 1 64 ≡ least
+least-is : round binary64 false 1 1024 ≡ least
 unfolding round
 least-is = refl
 
-rounded : (h a c : ℕ) → 0 < h → h ≤ 2 ^ 53 → 0 < c → c ≤ a * 64 → a ≤ h * c → Between h (round binary64 false a c)
+rounded : (h a c : ℕ) → 0 < h → h ≤ 2 ^ 53 → 0 < c → c ≤ a * 1024 → a ≤ h * c → Between h (round binary64 false a c)
 rounded h a c H H' C lo hi =
     let z = round binary64 false a c in
     let top = round binary64 false h 1 in
     let v : HasValue top false h 1 = round-whole binary64 false h H' in
     let q : T (positive top) = positive-of-value top h 1 v H in
-    let from : T (le least z) = subst (λ (x : Float). T (le x z)) least-is (round-mono binary64 1 64 a c (lit< tt) C (omega arith)) in
+    let from : T (le least z) = subst (λ (x : Float). T (le x z)) least-is (round-mono binary64 1 1024 a c (lit< tt) C (omega arith)) in
     let to : T (le z top) = round-mono binary64 a c h 1 C (lit< tt) (omega arith) in
     let p : T (positive z) = between least z top tt q from to in
     let f : num least * den z ≤ num z * den least = le→cross least z tt p from in
@@ -106,7 +106,7 @@ pitch p e =
     let q : T (positive p) = between lo p hi tt tt from to in
     (q, omega (arith, le→cross lo p tt q from), omega (arith, le→cross p hi q tt to))
 
-times : (k n c : ℕ) → 1 ≤ k → k ≤ 2047 → c ≤ n * 16 → n ≤ 4 * c → (1 * c ≤ k * n * 64) × (k * n ≤ 8188 * (1 * c))
+times : (k n c : ℕ) → 1 ≤ k → k ≤ 2047 → c ≤ n * 16 → n ≤ 4 * c → (1 * c ≤ k * n * 1024) × (k * n ≤ 8188 * (1 * c))
 times k n c K K' lo hi =
     let a : 1 * n ≤ k * n = mul-le-mul-right n K in
     let b : k * n ≤ 2047 * n = mul-le-mul-right n K' in
@@ -143,10 +143,10 @@ offset-zero : (m : ℕ) (e : ℤ) → T (le (fin false 0 (pos 0)) (fin true m e)
 unfolding le
 offset-zero m e t = omega (arith, eqb→eq (0 * down e) (m * up e * 1) (and-l (eqb (0 * down e) (m * up e * 1)) (false || eqb (0 * down e) 0) t))
 
-plus : (m n e d : ℕ) → m ≤ 1000 * e → d ≤ n * 64 → n ≤ 8188 * d → (e * d ≤ (m * d + n * e) * 64) × (m * d + n * e ≤ 16384 * (e * d))
+plus : (m n e d : ℕ) → m ≤ 1000 * e → d ≤ n * 1024 → n ≤ 8188 * d → (e * d ≤ (m * d + n * e) * 1024) × (m * d + n * e ≤ 16384 * (e * d))
 plus m n e d h lo hi =
     let a : m * d ≤ 1000 * (e * d) = le-trans (mul-le-mul-right d h) (le-of-eq (mul-assoc 1000 e d)) in
-    let b : e * d ≤ n * e * 64 = le-trans (le-of-eq (mul-comm e d)) (le-trans (mul-le-mul-right e lo) (le-of-eq (mul-right-comm n 64 e))) in
+    let b : e * d ≤ n * e * 1024 = le-trans (le-of-eq (mul-comm e d)) (le-trans (mul-le-mul-right e lo) (le-of-eq (mul-right-comm n 1024 e))) in
     let c : n * e ≤ 8188 * (e * d) = le-trans (mul-le-mul-right e hi) (le-of-eq (mul-assoc 8188 d e ∙ ap (λ (x : ℕ). 8188 * x) (mul-comm d e))) in
     (omega arith, omega arith)
 
@@ -205,7 +205,7 @@ div-is (inf s) p = absurd p
 div-is (fin true m e) p = absurd p
 div-is (fin false m e) p = refl
 
-thousandth : (n a c : ℕ) → 20 ≤ n → n ≤ 8000 → a * 1 ≡ n * c → (1000 * c ≤ a * 1 * 64) × (a * 1 ≤ 8 * (1000 * c))
+thousandth : (n a c : ℕ) → 20 ≤ n → n ≤ 8000 → a * 1 ≡ n * c → (1000 * c ≤ a * 1 * 1024) × (a * 1 ≤ 8 * (1000 * c))
 thousandth n a c lo hi e =
     let f : 20 * c ≤ n * c = mul-le-mul-right c lo in
     let t : n * c ≤ 8000 * c = mul-le-mul-right c hi in

@@ -20,7 +20,8 @@ use Rattle.reading.specs.declared.Job.{Job}
 use Rattle.reading.specs.declared.ReadAnswer.the-variants.{Readable, Unreadable}
 use Rattle.reading.specs.declared.MaybePlunge.the-variants.{OfPlunge, NoPlunge}
 use Rattle.reading.specs.Reading.{IsReadable, fileTrials, headIn, plungeAt, nthPlunge, total, readAnswer, read}
-use Rattle.reading.proofs.Steps.{andThen, first-append, both-accepted, wide-ball}
+use Rattle.refusal.proofs.Trials.{andThen, first-append, both-accepted}
+use Rattle.reading.proofs.Steps.{wide-ball}
 use Rattle.reading.proofs.Readable.{readable-sound}
 use Rattle.fields.specs.Fields.{plungeBytes, place}
 use Rattle.fields.proofs.Encoding.{place-next, place-le, place-few}

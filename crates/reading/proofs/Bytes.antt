@@ -22,7 +22,8 @@ use Rattle.refusal.specs.Refusals.{badKind, isNone, kindNamed}
 use Rattle.fields.specs.Fields.{two, four, headField, headFieldOf, plungeField, endField, headTag, headSize, headBytes, plungeBytes, endBytes, place}
 use Rattle.reading_fields.specs.Openings.{pairAt, opens, numberAt}
 use Rattle.reading.specs.Reading.{sizeIn, headAs, headIn, isPlunge, plungeAt, isEnd}
-use Rattle.reading.proofs.Steps.{opens-bytes, Plated}
+use Rattle.reading_fields.proofs.Openings.{opens-bytes}
+use Rattle.reading.proofs.Steps.{Plated}
 
 -- ---- a field that opens
 

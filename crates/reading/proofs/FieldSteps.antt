@@ -23,7 +23,8 @@ use Rattle.reading.specs.declared.ReadAnswer.the-variants.{Readable, Unr
 use Rattle.reading.specs.Reading.{headIn, isEnd, isPlunge, plungeAt, headTrials, plungeTrials, fieldTrials, fieldsFrom, fileTrials, total, readAnswer, read}
 use Rattle.reading_fields.specs.Openings.{numberAt, endTrials}
 use Rattle.reading.specs.Steps.{stepOf, stepAt}
-use Rattle.reading.proofs.Steps.{andThen, first-append, head-right, field-right, right-plunge, right-end, contained-plunge, contained-end}
+use Rattle.refusal.proofs.Trials.{andThen, first-append}
+use Rattle.reading.proofs.Steps.{head-right, field-right, right-plunge, right-end, contained-plunge, contained-end}
 use Rattle.fields.specs.Fields.{headBytes, plungeBytes, place, fileLength}
 use Rattle.fields.proofs.Encoding.{place-next, place-few, length-total}
 

@@ -30,7 +30,8 @@ use Rattle.reading.specs.Reading.{headIn, isPlunge, isEnd, plungeAt, pla
 use Rattle.reading_fields.specs.Openings.{openTrials}
 use Rattle.reading_fields.specs.Either.{plungeOpening, endOpening, opensEither}
 use Rattle.reading.specs.Steps.{stepAt, Contained}
-use Rattle.reading.proofs.Steps.{andThen, first-append, both-accepted, not-refused, Plated, head-right, plunge-right, content-plunge, content-end, fieldOpen, field-content}
+use Rattle.refusal.proofs.Trials.{andThen, first-append, both-accepted, not-refused}
+use Rattle.reading.proofs.Steps.{Plated, head-right, plunge-right, content-plunge, content-end, fieldOpen, field-content}
 use Rattle.reading_fields.proofs.Openings.{open-whole, end-right}
 use Rattle.reading.proofs.FieldSteps.{afterStep, fields-step, Passed, Closed, onward, ended, whole-total, file-first, small-head, head-begins}
 use Rattle.reading.proofs.Bytes.{head-kind, head-bytes, plunge-bytes, end-bytes, number-below, written-plunge, written-end, written-head, kind-named}

@@ -1,11 +1,11 @@
 -- Laws of one field: what the tests of its opening and its content come to, and what a field that is right has.
 use mathlib.Core.Path.{_≡_, refl, sym, ap, _∙_, subst}
 use mathlib.Core.Bool.{Bool, true, false, cond, not}
-use mathlib.Core.List.{List, [], _∷_, _++_}
+use mathlib.Core.List.{List, [], _∷_}
 use Prim.Native.Nat.{ℕ, _+_, _*_, _≤_, _<_}
 use native.Mathlib.Omega.{arith}
 use native.Mathlib.Nat.{le-refl}
-use borrow.Author.Tests.{ltb-false, le-ltb, leb-true, leb-false, eq-eqb, ne-eqb, eqb-true, eqb-false}
+use borrow.Author.Tests.{ltb-false, le-ltb, leb-true, leb-false, eq-eqb, ne-eqb, eqb-true, eqb-false, not-false}
 use lib.Dec.{leb, ltb, eqb}
 use lib.ListN.{length, getD}
 use Rattle.geometry.specs.declared.Head.{Head}
@@ -22,69 +22,18 @@ use Rattle.refusal.specs.declared.Verdict.{Verdict}
 use Rattle.refusal.specs.declared.Verdict.the-variants.{Accepted, Refused}
 use Rattle.refusal.specs.Refusals.{Trial, trial, firstMet, largestSide, badKind, badSides, mapTrials}
 use Rattle.refusal.proofs.Refusals.{map-sound}
+use Rattle.refusal.proofs.Trials.{andThen, first-append, both-accepted, cond-accepted}
 use Rattle.reading.specs.declared.MaybePlunge.{MaybePlunge}
 use Rattle.reading.specs.declared.MaybePlunge.the-variants.{OfPlunge, NoPlunge}
 use Rattle.reading.specs.declared.Step.the-variants.{Onward, Ended, Fault}
 use Rattle.reading_fields.specs.declared.Opening.{Opening}
-use Rattle.reading_fields.specs.Openings.{lengthAt, opens, numberAt, openTrials, endTrials}
+use Rattle.reading_fields.specs.Openings.{opens, numberAt, openTrials, endTrials}
 use Rattle.reading.specs.Reading.{isEnd, plungeAt, plateTrials, headTrials, plungeTrials, fieldTrials, headAs, headIn}
 use Rattle.reading_fields.specs.Either.{headOpening, plungeOpening, endOpening, begins, opensEither, sizeEither}
 use Rattle.reading.specs.Steps.{stepOf, rightStep, contentStep, stepAt, plungeOf, plungeIf, Contained}
 use Rattle.fields.specs.Fields.{opening, headTag, headSize, headBytes, plungeTag, plungeSize, plungeBytes, endTag, endSize, endBytes, place}
 use Rattle.refusal.specs.Sides.{Sides}
-use Rattle.reading_fields.proofs.Openings.{refused}
-
--- ---- trials after trials
-
--- the second verdict, if the first refuses nothing
-abbrev pub andThen : Verdict → Verdict → Verdict
-andThen Accepted v = v
-andThen (Refused r) v = Refused r
-
-pub first-append : (ts us : List Trial) → firstMet (ts ++ us) ≡ andThen (firstMet ts) (firstMet us)
-first-append [] us = refl
-first-append (t ∷ ts) us = go (t .met) (first-append ts us)
-  where
-    go : (b : Bool) → firstMet (ts ++ us) ≡ andThen (firstMet ts) (firstMet us)
-        → cond b (refused (t .number) (t .place)) (firstMet (ts ++ us)) ≡ andThen (cond b (refused (t .number) (t .place)) (firstMet ts)) (firstMet us)
-    go true e = refl
-    go false e = e
-
-pub not-refused : (r : Refusal) → Refused r ≡ Accepted → ⊥
-not-refused r e = let z : _≡_ {A = ℕ} 0 1 = cc in omega arith
-
-pub both-accepted : (u v : Verdict) → andThen u v ≡ Accepted → (u ≡ Accepted) × (v ≡ Accepted)
-both-accepted Accepted v e = (refl, e)
-both-accepted (Refused r) v e = absurd (not-refused r e)
-
--- a trial that refuses nothing, and those after it
-pub cond-accepted : (b : Bool) (r : Refusal) (v : Verdict) → cond b (Refused r) v ≡ Accepted → (b ≡ false) × (v ≡ Accepted)
-cond-accepted true r v e = absurd (not-refused r e)
-cond-accepted false r v e = (refl, e)
-
--- ---- the opening of a field
-
-not-not : (b : Bool) → not b ≡ false → b ≡ true
-not-not true e = refl
-not-not false e = let z : _≡_ {A = ℕ} 0 1 = cc in absurd (omega arith)
-
--- a field that opens has its content, and its tag and length are allowed
-pub opened : (f : List ℕ) (at : ℕ) (allowed : Bool) (size : ℕ) → firstMet (openTrials f at allowed size) ≡ Accepted → (at + (3 + size) ≤ length f)
-    × (allowed ≡ true)
-opened f at allowed size e =
-    let six : Refusal = record { number = 6; place = at } in
-    let a = cond-accepted (ltb (length f) (at + 3)) six (firstMet (trial (not allowed) 7 at ∷ trial (ltb (length f) (at + (opening + size))) 6 at ∷ [])) e in
-    let b = cond-accepted (not allowed) (record { number = 7; place = at }) (firstMet (trial (ltb (length f) (at + (opening + size))) 6 at ∷ [])) (a .1) in
-    let c = cond-accepted (ltb (length f) (at + (opening + size))) six Accepted (b .1) in
-    (ltb-false _ _ (c .0), not-not allowed (b .0))
-
--- a field that opens: its tag and its length
-pub opens-bytes : (tag size : ℕ) (f : List ℕ) (at : ℕ) → opens tag size f at ≡ true → (getD f at 0 ≡ tag) × (lengthAt f at ≡ size)
-opens-bytes tag size f at = go (eqb (getD f at 0) tag) refl
-  where
-    go : (b : Bool) → eqb (getD f at 0) tag ≡ b → cond b (eqb (lengthAt f at) size) false ≡ true → (getD f at 0 ≡ tag) × (lengthAt f at ≡ size)
-    go true e g = (eqb-true _ _ e, eqb-true _ _ g)
-    go false e g = let z : _≡_ {A = ℕ} 0 1 = cc in absurd (omega arith)
+use Rattle.reading_fields.proofs.Openings.{refused, opened, opens-bytes, once}
 
 -- ---- the head
 
@@ -101,12 +50,7 @@ headPlate f = plateTrials (getD f 3 0) (getD f 4 0) (getD f 5 0)
 module _ (f : List ℕ) (h : Opening) (is : h ≡ headOpening Small) (v : Verdict)
     (e : v ≡ firstMet (openTrials f 0 (opensEither h h f 0) (sizeEither h h f 0))) where
   head-open : v ≡ firstMet (headOpen f)
-  head-open =
-      e ∙ ap (λ (o : Opening). firstMet (openTrials f 0 (opensEither o o f 0) (sizeEither o o f 0))) is ∙ once (opens (headTag Small) (headSize Small) f 0)
-    where
-      once : (b : Bool) → firstMet (openTrials f 0 (cond b true b) (cond b (headSize Small) (headSize Small))) ≡ firstMet (openTrials f 0 b (headSize Small))
-      once true = refl
-      once false = refl
+  head-open = e ∙ ap (λ (o : Opening). firstMet (openTrials f 0 (opensEither o o f 0) (sizeEither o o f 0))) is ∙ once f 0 (headOpening Small)
 
   pub head-room : v ≡ Accepted → headBytes Small ≤ length f
   head-room g = let t = opened f 0 (opens (headTag Small) (headSize Small) f 0) (headSize Small) (sym head-open ∙ g) in omega (arith, t .0)
@@ -312,11 +256,11 @@ right-plunge p f at e =
     let a = cond-accepted (not (fitsPlate p q)) (record { number = 8; place = at }) (firstMet (trial (eqb (q .depth) 0) 9 at ∷ [])) e in
     let b = cond-accepted (eqb (q .depth) 0) (record { number = 9; place = at }) Accepted (a .1) in
     let d = eqb-false (q .depth) 0 (b .0) in
-    (not-not _ (a .0), omega arith)
+    (not-false _ (a .0), omega arith)
 
 pub right-end : (f : List ℕ) (at n : ℕ) → firstMet (endTrials f at n) ≡ Accepted → (numberAt f at ≡ n) × (length f ≤ at + endBytes)
 right-end f at n e =
     let a = cond-accepted (not (eqb (numberAt f at) n)) (record { number = 10; place = at })
     (firstMet (trial (ltb (at + endBytes) (length f)) 11 (at + endBytes) ∷ [])) e in
     let b = cond-accepted (ltb (at + endBytes) (length f)) (record { number = 11; place = at + endBytes }) Accepted (a .1) in
-    (eqb-true _ _ (not-not _ (a .0)), ltb-false _ _ (b .0))
+    (eqb-true _ _ (not-false _ (a .0)), ltb-false _ _ (b .0))

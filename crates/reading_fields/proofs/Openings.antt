@@ -5,15 +5,17 @@ use mathlib.Core.List.{List, [], _∷_}
 use Prim.Native.Nat.{ℕ, _+_, _-_, _≤_, _<_}
 use native.Mathlib.Omega.{arith}
 use native.Mathlib.Decide.{decLe}
-use borrow.Author.Tests.{lt-ltb, le-ltb, eq-eqb, ne-eqb}
-use lib.Dec.{ltb}
-use lib.ListN.{length}
+use borrow.Author.Tests.{ltb-false, eqb-true, not-false, lt-ltb, le-ltb, eq-eqb, ne-eqb}
+use lib.Dec.{ltb, eqb}
+use lib.ListN.{length, getD}
+use Rattle.refusal.specs.declared.Refusal.{Refusal}
 use Rattle.refusal.specs.declared.Verdict.{Verdict}
 use Rattle.refusal.specs.declared.Verdict.the-variants.{Accepted, Refused}
 use Rattle.refusal.specs.Refusals.{trial, firstMet}
+use Rattle.refusal.proofs.Trials.{cond-accepted}
 use Rattle.fields.specs.Fields.{opening, endBytes}
 use Rattle.reading_fields.specs.declared.Opening.{Opening}
-use Rattle.reading_fields.specs.Openings.{numberAt, openTrials, endTrials}
+use Rattle.reading_fields.specs.Openings.{lengthAt, opens, numberAt, openTrials, endTrials}
 use Rattle.reading_fields.specs.Either.{begins, opensEither, sizeEither}
 
 abbrev pub refused : ℕ → ℕ → Verdict
@@ -58,6 +60,35 @@ module _ (f : List ℕ) (at : ℕ) (a b : Opening) (h : at ≤ length f) (l : op
 
   pub none-opens : begins a f at ≡ false → begins b f at ≡ false → refused 7 at ≡ firstMet (openTrials f at (opensEither a b f at) (sizeEither a b f at))
   none-opens e g = rw (e, g) (open-wrong f at false (b .size) h l refl)
+
+-- ---- what a field that opens has
+
+-- a field that opens has its content, and its tag and length are allowed
+pub opened : (f : List ℕ) (at : ℕ) (allowed : Bool) (size : ℕ) → firstMet (openTrials f at allowed size) ≡ Accepted → (at + (opening + size) ≤ length f)
+    × (allowed ≡ true)
+opened f at allowed size e =
+    let six : Refusal = record { number = 6; place = at } in
+    let a = cond-accepted (ltb (length f) (at + opening)) six (firstMet (trial (not allowed) 7 at ∷ trial (ltb (length f) (at + (opening + size))) 6 at ∷ [])) e in
+    let b = cond-accepted (not allowed) (record { number = 7; place = at }) (firstMet (trial (ltb (length f) (at + (opening + size))) 6 at ∷ [])) (a .1) in
+    let c = cond-accepted (ltb (length f) (at + (opening + size))) six Accepted (b .1) in
+    (ltb-false _ _ (c .0), not-false allowed (b .0))
+
+-- a field that opens: its tag and its length
+pub opens-bytes : (tag size : ℕ) (f : List ℕ) (at : ℕ) → opens tag size f at ≡ true → (getD f at 0 ≡ tag) × (lengthAt f at ≡ size)
+opens-bytes tag size f at = go (eqb (getD f at 0) tag) refl
+  where
+    go : (b : Bool) → eqb (getD f at 0) tag ≡ b → cond b (eqb (lengthAt f at) size) false ≡ true → (getD f at 0 ≡ tag) × (lengthAt f at ≡ size)
+    go true e g = (eqb-true _ _ e, eqb-true _ _ g)
+    go false e g = let z : _≡_ {A = ℕ} 0 1 = cc in absurd (omega arith)
+
+-- one opening that is tried twice
+pub once : (f : List ℕ) (at : ℕ) (o : Opening)
+    → firstMet (openTrials f at (opensEither o o f at) (sizeEither o o f at)) ≡ firstMet (openTrials f at (begins o f at) (o .size))
+once f at o = go (begins o f at)
+  where
+    go : (b : Bool) → firstMet (openTrials f at (cond b true b) (cond b (o .size) (o .size))) ≡ firstMet (openTrials f at b (o .size))
+    go true = refl
+    go false = refl
 
 -- ---- the end field
 

@@ -16,35 +16,35 @@ ghost use Rattle.reading_fields.specs.Either.{headOpening, plungeOpening
 // How a field begins: its tag, and the length of its content.
 pub struct Opening {
     pub tag: u8,
-    pub size: u8,
+    pub size: u16,
+}
+
+fn opening_of(tag: u8, size: u8) -> Opening
+    ensures { λ r. ⌜ r ≡ record { tag = tag; size = size } ⌝ }
+{
+    Opening {
+        tag,
+        size: size as u16,
+    }
 }
 
 // That of the head, of a plunge's field, and of the end.
 pub fn head_opening(size: Size) -> Opening
     ensures { λ r. ⌜ r ≡ headOpening size ⌝ }
 {
-    Opening {
-        tag: fields::head_tag(size),
-        size: fields::head_size(size),
-    }
+    opening_of(fields::head_tag(size), fields::head_size(size))
 }
 
 pub fn plunge_opening(size: Size) -> Opening
     ensures { λ r. ⌜ r ≡ plungeOpening size ⌝ }
 {
-    Opening {
-        tag: fields::plunge_tag(size),
-        size: fields::plunge_size(size),
-    }
+    opening_of(fields::plunge_tag(size), fields::plunge_size(size))
 }
 
 pub fn end_opening() -> Opening
     ensures { λ r. ⌜ r ≡ endOpening ⌝ }
 {
-    Opening {
-        tag: fields::END_TAG,
-        size: fields::END_SIZE,
-    }
+    opening_of(fields::END_TAG, fields::END_SIZE)
 }
 
 // Whether a field that begins so stands at a place.
@@ -54,13 +54,13 @@ pub fn opens(file: &[u8], at: usize, field: Opening) -> bool
 {
     if file[at] == field.tag {
         return 256 * numbers::wide(file[at + 1]) + numbers::wide(file[at + 2])
-            == numbers::wide(field.size);
+            == (field.size as usize);
     }
     false
 }
 
 // Refusal 6 where the bytes left at a place do not hold a content.
-fn check_content(left: usize, size: u8, at: usize) -> Verdict
+fn check_content(left: usize, size: u16, at: usize) -> Verdict
     requires { ⌜ opening ≤ left ⌝ }
     ensures { λ r. ⌜ r ≡ firstMet (trial (ltb left (opening + size)) 6 at ∷ []) ⌝ }
 {

@@ -27,7 +27,7 @@ use Rattle.fields.proofs.Encoding.{encoded-length}
 use Rattle.numerals.specs.Numerals.{Puts}
 use Rattle.reading.specs.Reading.{headIn, plungesIn}
 use Rattle.reading.specs.Steps.{JobOf}
-use Rattle.reading.proofs.Steps.{first-append, both-accepted}
+use Rattle.refusal.proofs.Trials.{first-append, both-accepted}
 use Rattle.reading.proofs.Readable.{Writable, encoded-readable, encoded-head, encoded-plunges, encoded-total}
 use Rattle.listing.specs.declared.Extent.{Extent}
 use Rattle.listing.specs.declared.ListAnswer.the-variants.{Listed, Unlisted}

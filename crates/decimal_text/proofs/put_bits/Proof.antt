@@ -2,7 +2,7 @@
 use borrow.Author.Needs.{needs}
 use Rattle.decimal_text.proofs.put_bits.Statement.{statement}
 use Rattle.decimal_text.proofs.put_bits.Tie as tie
-use Rattle.decimal_text.proofs.Sizes.{half-pos, fraction-below}
+use Rattle.decimal_text.proofs.Sizes.{half-pos}
 use Rattle.decimal_text.proofs.Shortest.{digits-few}
 use Rattle.decimal_text.proofs.Texts.{put-same}
 use Rattle.decimal_text.proofs.Floats.{bits-below, bits-above, bits-within}
@@ -38,7 +38,7 @@ parts-of-requires : tie.Need-parts-of-requires
 parts-of-requires c κs = search needs
 
 digits-of-requires : tie.Need-digits-of-requires
-digits-of-requires c κs = (rw (c .parts-of .ensures) (half-pos _ _), rw (c .parts-of .ensures) (fraction-below _ _))
+digits-of-requires c κs = rw (c .parts-of .ensures) (half-pos _ _)
 
 put-parts-requires : tie.Need-put-parts-requires
 put-parts-requires c κs = rw (c .before .digits-of .ensures) (digits-few _ _)

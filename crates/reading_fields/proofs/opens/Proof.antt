@@ -43,14 +43,14 @@ add-result c =
       c .before .shared-slice-known4 .given (at-start .args .at + 2),
     )
 
-wide-requires-3 : tie.Need-wide-requires-3
-wide-requires-3 c κs = search needs
+cast-result : tie.Need-cast-result
+cast-result c = search needs
 
 returns : tie.Need-returns
 returns c =
     let at-wide = c .before .before .before in
     let at-if1 = at-wide .before .before in
-    simp (eq-eqb _ _ (at-if1 .if1 .taken), at-wide .wide .ensures, c .before .wide2 .ensures, c .wide3 .ensures)
+    simp (eq-eqb _ _ (at-if1 .if1 .taken), at-wide .wide .ensures, c .before .wide2 .ensures)
 
 returns-2 : tie.Need-returns-2
 returns-2 c = simp (ne-eqb _ _ (c .if1 .left))
@@ -68,6 +68,6 @@ opens-spec =
     shared-slice-read-wide-2
     wide-requires-2
     add-result
-    wide-requires-3
+    cast-result
     returns
     returns-2)
