@@ -30,6 +30,7 @@ import library
 import maps
 import peers
 import scans
+import tables
 from guard import Blank, Desk, Free, Region
 from judge import Judge
 from maps import Plate
@@ -139,6 +140,20 @@ def press_motions(judge, index, rng, all_calls):
     jobs.compare_scales(judge, rng, many=1500)
 
 
+def sink_tables(judge, index, rng, all_calls):
+    """One table; the first are the built-in one, the least and the greatest. Each fourth with a guard page before each buffer."""
+    first = [tables.BUILT_IN, tables.LEAST, tables.GREATEST]
+    judge.desk.front = index % 4 == 3
+    jobs.compare_tables(judge, rng, first[index] if index < len(first) else tables.some_table(rng))
+    judge.desk.front = False
+
+
+def table_motions(judge, index, rng, all_calls):
+    judge.desk.front = index % 4 == 3
+    jobs.compare_tables_of_motions(judge, rng, many=1000)
+    judge.desk.front = False
+
+
 def threads(judge, index, rng, all_calls):
     """Calls from several threads at once, each with buffers of its own: each answer as if it were alone."""
     def many_times(plate, desk):
@@ -170,6 +185,8 @@ SECTIONS = {
     "edges": (edges, 8, 8, True),
     "long": (long_files, 2, 1, True),
     "motions": (press_motions, 16, 2, True),
+    "tables": (sink_tables, 16, 4, True),
+    "table-motions": (table_motions, 8, 1, True),
 }
 
 

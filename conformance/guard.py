@@ -24,6 +24,14 @@ class Blank(int):
     """An output or work buffer of so many bytes, each UNTOUCHED before the call."""
 
 
+class Lent(bytes):
+    """An input whose length the call knows: it gets the pointer alone."""
+
+
+class Replaceable(Lent):
+    """One that the call may write: its bytes after the call are compared whole."""
+
+
 class Free(int):
     """In what is expected: so many bytes that may hold anything; those behind them are UNTOUCHED."""
 
@@ -60,22 +68,22 @@ class Region:
         """What was changed that is not the call's to change, or None."""
         if (self.beside != BESIDE).any():
             return "bytes beside a buffer were written"
-        if not isinstance(self.part, Blank) and self.held.tobytes() != self.part:
+        if not isinstance(self.part, (Blank, Replaceable)) and self.held.tobytes() != self.part:
             return "an input was written"
         return None
 
 
 class Outcome:
-    """What a call answered, and what its outputs and work buffers hold after it."""
+    """What a call answered, and what the buffers that it may write hold after it."""
 
     def __init__(self, answer, blanks, strayed):
         self.answer, self.blanks, self.strayed = answer, blanks, strayed
 
 
 def fields(answer):
-    """A struct's numbers as a tuple; a float is given by its 64 bits."""
+    """A struct's numbers as a tuple, none of a call that answers nothing; a float is given by its 64 bits."""
     numbers = []
-    for name, form in answer._fields_:
+    for name, form in answer._fields_ if answer is not None else ():
         number = getattr(answer, name)
         numbers.append(bits(number) if form is ctypes.c_double else number)
     return tuple(numbers)
@@ -94,7 +102,7 @@ class Desk:
         self.nowhere = 0
 
     def call(self, function, parts):
-        """Calls `function`; each part that is bytes or Blank becomes a pointer and a length, other parts go as they are."""
+        """Calls `function`; bytes and Blank become a pointer and a length, Lent and Replaceable a pointer; other parts go as they are."""
         arguments, used = [], []
         for part in parts:
             if isinstance(part, (bytes, Blank)):
@@ -104,10 +112,10 @@ class Desk:
                     self.nowhere = (self.nowhere + 1) % len(NOWHERE)
                     if NOWHERE[self.nowhere] is not None:
                         address = NOWHERE[self.nowhere]
-                arguments += [address, region.length]
+                arguments += [address] if isinstance(part, Lent) else [address, region.length]
                 used.append(region)
             else:
                 arguments.append(part)
         answer = fields(function(*arguments))
         strayed = next((s for s in (region.strayed() for region in used) if s), None)
-        return Outcome(answer, [r.held.tobytes() for r in used if isinstance(r.part, Blank)], strayed)
+        return Outcome(answer, [r.held.tobytes() for r in used if isinstance(r.part, (Blank, Replaceable))], strayed)

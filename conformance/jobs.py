@@ -1,4 +1,4 @@
-"""Comparisons of the calls about job files: listing, reading, drawing, tidying, the tidy check and motions; and their refusals."""
+"""Comparisons of the calls about job files: listing, reading, drawing, tidying, the tidy check, motions and sink tables; and their refusals."""
 import functools
 
 import numpy as np
@@ -6,7 +6,8 @@ import numpy as np
 import files
 import motions
 import peers
-from guard import Blank, Free
+import tables
+from guard import Blank, Free, Lent, Replaceable
 from library import Scale
 from maps import BAD, Plate, longer
 
@@ -189,14 +190,18 @@ def compare_motions(judge, file, plunges, i, scale):
         judge.add("travels where a fused product and sum would differ", motions.fused_travel(*travel) != motions.travel(*travel))
 
 
-def compare_scales(judge, rng, many):
-    """Every end of every range against every other, and random scales, over plunges of every depth, at reach 0, 1 and another, and of all reaches."""
+def of_every_depth(rng):
+    """Plunges on the largest plate: every depth at reach 0, 1 and another."""
     def inside(reach):
         return int(rng.integers(reach, 240 - reach))
 
-    deep = [(inside(reach), inside(reach), reach, depth) for depth in range(1, 256) for reach in (0, 1, int(rng.integers(2, 120)))]
+    return [(inside(reach), inside(reach), reach, depth) for depth in range(1, 256) for reach in (0, 1, int(rng.integers(2, 120)))]
+
+
+def compare_scales(judge, rng, many):
+    """Every end of every range against every other, and random scales, over plunges of every depth and of all reaches."""
     wide = [(c, 120, reach, 1) for reach in range(120) for c in {reach, 239 - reach}]
-    plunges = deep + wide
+    plunges = of_every_depth(rng) + wide
     file = files.encode(int(rng.choice([4, 8])), 240, 240, plunges)
     total = len(plunges)
     judge.tell(("file", file))
@@ -212,3 +217,84 @@ def compare_scales(judge, rng, many):
         compare_motions(judge, file, plunges, i, (0.0, 0.0, 0.0))
     for _ in range(many):
         compare_motions(judge, file, plunges, int(rng.integers(total)), motions.some_scale(rng))
+
+
+# ---- sink tables
+
+def compare_load(judge, field, force):
+    """A load in place of the numbers in force, which a refusal keeps."""
+    judge.tell(("field", field))
+    reading = tables.read(field)
+    label = "table loads, refused" if reading.number else "table loads, accepted"
+    after = force if reading.number else tables.lent(reading.table)
+    judge.call(label, "haru_load_table", [field, Replaceable(force)], (reading.number, 0, reading.place), [after])
+
+
+def compare_write(judge, table, room):
+    """A table of any numbers into an output."""
+    judge.tell(("table", table))
+    number, place, field = tables.write(table, room)
+    label = {0: "table writes, accepted", 5: "table writes, short output", 15: "table writes, rule broken"}[number]
+    judge.call(label, "haru_write_table", [Lent(tables.lent(table)), Blank(room)], (number, 0, place), [field])
+
+
+def compare_there_and_back(judge, table, force):
+    """A legal table is written, what came out is loaded, and what was loaded written again."""
+    judge.tell(("table", table))
+    field, memory, done = tables.encode(table), tables.lent(table), (0, 0, 0)
+    written = judge.call("table writes, to be loaded", "haru_write_table", [Lent(memory), Blank(len(field))], done, [field])
+    loaded = judge.call("table loads, of what was written", "haru_load_table", [written.blanks[0], Replaceable(force)], done, [memory])
+    judge.call("table writes, of what was loaded", "haru_write_table", [Lent(loaded.blanks[0]), Blank(len(field))], done, [field])
+
+
+def compare_fields(judge, rng, table, fields):
+    """Loads of fields, over numbers of all sorts: random ones, the built-in table, legal ones."""
+    for field in fields:
+        way = rng.integers(4)
+        force = rng.bytes(2 * tables.ENTRIES) if way else tables.lent(tables.BUILT_IN if rng.integers(2) else table)
+        compare_load(judge, field, force)
+
+
+def compare_tables(judge, rng, table):
+    """One legal table: its field, loaded whole and damaged in every way; it and tables like it, written into outputs of all sorts."""
+    field = tables.encode(table)
+    judge.call("the built-in table", "haru_built_in_table", [Replaceable(rng.bytes(2 * tables.ENTRIES))], (), [tables.lent(tables.BUILT_IN)])
+    compare_there_and_back(judge, table, rng.bytes(2 * tables.ENTRIES))
+    damages = [[field], tables.cuts(field), tables.openings(field), tables.surplus(field), tables.twice(rng, table, 300), tables.typed(rng, 100),
+               map(tables.encode, tables.entry_ends(table)), (tables.encode(tables.some_numbers(rng)) for _ in range(50))]
+    for fields in damages:
+        compare_fields(judge, rng, table, fields)
+    lengths = [0, 1, 2, 3, 512, tables.LENGTH - 1, tables.LENGTH, tables.LENGTH + 1, 600, 1030]
+    for room in lengths:
+        for one in (table, tables.with_entry(table, 0, 1), tables.with_entry(table, 255, tables.LARGEST + 1), tables.some_numbers(rng)):
+            compare_write(judge, one, room)
+    for one in tables.entry_ends(table):
+        compare_write(judge, one, int(rng.choice(lengths)))
+
+
+def compare_table_motions(judge, label, table, file, i, scale):
+    """Motions by any 256 numbers. A file's refusals are as for the built-in table."""
+    reading = files.read(file)
+    refused = (reading.number, 0, reading.place) + (motions.NONE,) * 4
+    wanted = refused if reading.number else motions.motions(reading.plunges, i, *scale, table)
+    judge.tell(("table", table), ("file", file))
+    judge.call(label, "haru_table_motions", [Lent(tables.lent(table)), file, i, Scale(*scale)], wanted)
+
+
+def compare_tables_of_motions(judge, rng, many):
+    """Plunges of every depth, by the built-in table as without one, by legal tables, and by numbers that are none."""
+    plunges, scale = of_every_depth(rng), (0.1, 0.7, 999.9)
+    file, total = files.encode(int(rng.choice([4, 8])), 240, 240, plunges), len(plunges)
+    for i in range(total):
+        compare_motions(judge, file, plunges, i, scale)
+        compare_table_motions(judge, "table motions, built-in table", tables.BUILT_IN, file, i, scale)
+        compare_table_motions(judge, "table motions, legal tables", tables.some_table(rng), file, i, scale)
+        for numbers in (tables.some_numbers(rng), [0] * tables.ENTRIES, [65535] * tables.ENTRIES):
+            compare_table_motions(judge, "table motions, any numbers", numbers, file, i, scale)
+    for _ in range(many):
+        table = tables.some_table(rng) if rng.integers(2) else tables.some_numbers(rng)
+        i = int(rng.integers(total + 1)) if rng.integers(8) else int(rng.choice([total, total + 1, 1 << 31, 1 << 32]))
+        compare_table_motions(judge, "table motions, random scales", table, file, i, motions.some_scale(rng))
+    small = files.encode(8, 3, 3, [(1, 1, 0, 9), (1, 1, 1, 4)])
+    for bad in [*files.cuts(small), *files.ends(small), *files.twice(rng, small, 100)]:
+        compare_table_motions(judge, "table motions, damaged files", tables.some_numbers(rng), bad, int(rng.integers(3)), motions.some_scale(rng))

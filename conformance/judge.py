@@ -31,9 +31,10 @@ class Judge:
     # ---- comparing
 
     def call(self, label, name, parts, answer, buffers=()):
-        """Calls `name` and compares its numbers and every byte of its outputs and work buffers.
+        """Calls `name` and compares its numbers and every byte of the buffers that it may write.
 
-        buffers: for each Blank among the parts the bytes it must start with, or Free; all bytes behind must be UNTOUCHED.
+        buffers: for each Blank among the parts the bytes it must start with, or Free; all bytes behind must be UNTOUCHED. For each
+        Replaceable all its bytes.
         """
         if self.note is not None:
             line = f"{self.case} {label} {name}".encode()[:200]

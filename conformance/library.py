@@ -26,6 +26,7 @@ class MotionsAnswer(ctypes.Structure):
 
 
 BUFFER = [c_void_p, c_size_t]
+TABLE = [c_void_p]                      # 256 numbers of two bytes
 PLATE = [c_uint32, c_uint32]
 RELIEF = BUFFER + [c_uint32] + PLATE    # relief, its length, kind, width, height
 
@@ -47,6 +48,10 @@ JOB_CALLS = {
     "haru_tidy": (ListAnswer, 5 * BUFFER),
     "haru_check": (Answer, 4 * BUFFER),
     "haru_motions": (MotionsAnswer, BUFFER + [c_size_t, Scale]),
+    "haru_load_table": (Answer, BUFFER + TABLE),
+    "haru_write_table": (Answer, TABLE + BUFFER),
+    "haru_built_in_table": (None, TABLE),
+    "haru_table_motions": (MotionsAnswer, TABLE + BUFFER + [c_size_t, Scale]),
 }
 
 

@@ -2,6 +2,7 @@
 import math
 from fractions import Fraction
 
+import tables
 from guard import bits
 
 LEAST_PITCH, LARGEST_PITCH, LARGEST_OFFSET = Fraction(1, 16), 4, 1000
@@ -32,14 +33,13 @@ def fused_travel(offset, cell, pitch):
     return rounded(Fraction(offset) + (2 * cell + 1) * Fraction(pitch))
 
 
-def sink(reach, depth):
+def sink(reach, depth, table):
     """The table's entry in millimetres, with a tenth more at reach 0, rounded down to whole micrometres."""
-    entry = 20 * depth + math.floor(Fraction(depth * depth, 64))
     worn = Fraction(11, 10) if reach == 0 else 1
-    return rounded(Fraction(math.floor(entry * worn), 1000))
+    return rounded(Fraction(math.floor(table[depth] * worn), 1000))
 
 
-def motions(plunges, i, pitch, column_offset, row_offset):
+def motions(plunges, i, pitch, column_offset, row_offset, table=tables.BUILT_IN):
     """The call's numbers for a readable file: number, changed, place, then width, x, y, sink by their bits."""
     if not scale_is_good(pitch, column_offset, row_offset):
         return 13, 0, 0, NONE, NONE, NONE, NONE
@@ -49,7 +49,7 @@ def motions(plunges, i, pitch, column_offset, row_offset):
     changed = i == 0 or plunges[i - 1][2] != reach
     width = rounded(2 * (2 * reach + 1) * Fraction(pitch)) if changed else 0.0
     return (0, int(changed), 0, bits(width), bits(travel(column_offset, column, pitch)), bits(travel(row_offset, row, pitch)),
-            bits(sink(reach, depth)))
+            bits(sink(reach, depth, table)))
 
 
 # ---- scales to try

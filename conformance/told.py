@@ -1,7 +1,7 @@
 """What the program jobtool should write: answers, refusals with their sentences, comparisons, statuses. Made from the words about it alone.
 
-Lists and drawings are SciPy's, the reader is files.py, motions are exact fractions, numbers as text are Python's own; figures come from
-tests/test_summary.py, pictures and their faults from tests/test_pgm.py.
+Lists and drawings are SciPy's, the readers are files.py and tables.py, motions are exact fractions, numbers as text are Python's own; figures
+come from tests/test_summary.py, pictures and their faults from tests/test_pgm.py.
 """
 import os
 import re
@@ -13,6 +13,7 @@ import numpy as np
 import files
 import motions
 import peers
+import tables
 
 TOP = os.path.join(os.path.dirname(os.path.abspath(__file__)), "..")
 sys.path.append(os.path.join(TOP, "tests"))
@@ -85,14 +86,18 @@ def number_of(text):
     return float(text) if sum(c.isdigit() for c in text) <= 15 else None
 
 
-def moved(plunges, pitch, x, y):
+def moved(plunges, table, pitch, x, y):
     lines, before = [], None
     for column, row, reach, depth in plunges:
         lines.append("stay" if reach == before else "change " + text_of(motions.rounded(2 * (2 * reach + 1) * motions.Fraction(pitch))))
         lines.append(f"travel {text_of(motions.travel(x, column, pitch))} {text_of(motions.travel(y, row, pitch))}")
-        lines.append("sink " + text_of(motions.sink(reach, depth)))
+        lines.append("sink " + text_of(motions.sink(reach, depth, table)))
         before = reach
     return "".join(line + "\n" for line in lines).encode()
+
+
+def table_text(table):
+    return "".join(f"depth {depth}: {entry} micrometres, {entry + entry // 10} at reach 0\n" for depth, entry in enumerate(table)).encode()
 
 
 def picture_of(width, height, depths):
@@ -105,13 +110,18 @@ def refused(name, number, place, sentence):
     return Told(b"", f"refused {number} {place}\n".encode() + b"jobtool: " + shown_name(name) + f": {sentence}\n".encode(), REFUSED)
 
 
+def sorts(data):
+    """What a file looks like."""
+    begun = {"job": data[:3] == b"\1\0\3", "picture": data[:2] == b"P5", "scan": data[:1] in (b"\4", b"\x08")}
+    return [sort for sort, met in begun.items() if met]
+
+
 def another_sort(data, taken):
     """What a file looks like that is not of the sort that is taken."""
-    sorts = {"job": data[:3] == b"\1\0\3", "picture": data[:2] == b"P5", "scan": data[:1] in (b"\4", b"\x08")}
     made = {"job": "a job file: jobtool draw makes a scan", "picture": "a picture: jobtool scan makes a scan", "scan": "a scan: jobtool list makes a job file"}
     if not data:
         return "it is empty"
-    return next((f"this looks like {made[sort]} of one" for sort, met in sorts.items() if met and sort != taken), None)
+    return next((f"this looks like {made[sort]} of one" for sort in sorts(data) if sort != taken), None)
 
 
 def plate_fault(kind, width, height):
@@ -158,6 +168,24 @@ def scale_refusal(name, pitch, x, y):
     return refused(name, 13, 0, f"the {side} offset is not a number from 0 to 1000")
 
 
+def table_sentence(data, number, place):
+    """What is wrong with a sink table at a place."""
+    if not data:
+        return "it is empty"
+    for sort in sorts(data):
+        return f"this looks like {'a job file' if sort == 'job' else 'a ' + sort}, not a sink table"
+    entry = f"entry {(place - 3) // 2} at byte {place} is {int.from_bytes(data[place:place + 2], 'big')}"
+    return {6: f"a sink table has 515 bytes, this file has {len(data)}",
+            7: f"the field has tag {data[0]} and length {int.from_bytes(data[1:3], 'big')}, a sink table has 5 and 512",
+            11: "the file goes on behind the sink table, from byte 515 on",
+            15: f"{entry}: entry 0 must be 0, each larger than the one before, none above 50000"}[number]
+
+
+def table_refusal(name, data):
+    reading = tables.read(data)
+    return refused(name, reading.number, reading.place, table_sentence(data, reading.number, reading.place)) if reading.number else None
+
+
 # ---- commands
 
 def list_scan(words, name, data):
@@ -192,8 +220,15 @@ def check(name, data, job):
     return job_refusal(name, data, 12, next(i for i, (a, b) in enumerate(zip(data, tidy)) if a != b))
 
 
-def wanted(words, data, name=None):
-    """What a command should write of one input."""
+def by_table(words, named, field, data, name=None):
+    """motions with --table: the table's file is named, and judged before the job is."""
+    return table_refusal(named, field) or wanted(words, data, name, tables.read(field).table)
+
+
+def wanted(words, data, name=None, table=tables.BUILT_IN):
+    """What a command should write of one input; motions by a table."""
+    if words[0] == "table":
+        return table_refusal(name, data) or Told(table_text(tables.read(data).table), b"", DONE)
     if words[0] == "list":
         return list_scan(words, name, data)
     if words[0] == "scan":
@@ -207,7 +242,7 @@ def wanted(words, data, name=None):
         return check(name, data, job)
     if words[0] == "motions":
         scale = [number_of(text) for text in words[1:]]
-        return Told(moved(job.plunges, *scale), b"", DONE) if motions.scale_is_good(*scale) else scale_refusal(name, *scale)
+        return Told(moved(job.plunges, table, *scale), b"", DONE) if motions.scale_is_good(*scale) else scale_refusal(name, *scale)
     if words[0] == "tidy":
         return Told(tidied(job), rungs_told(words, job.kind, drawn(job)), DONE)
     made = {"draw": lambda: bytes([job.kind, job.width, job.height]) + drawn(job).tobytes(),

@@ -25,21 +25,31 @@ import numpy as np
 
 import files
 import scans
+import tables
 import told
-from told import DONE, LIMIT, REFUSED, TROUBLE, Told, trouble, wanted, wrong_use
+from told import DONE, LIMIT, REFUSED, TROUBLE, Told, trouble, wrong_use
 
 TOOL = os.path.abspath(os.environ.get("JOBTOOL") or os.path.join(told.TOP, "target", "programs", "jobtool"))
 PLUNGES = os.path.abspath(os.environ.get("PLUNGES") or os.path.join(told.TOP, "target", "programs", "plunges"))
 CRATE = os.path.join(told.TOP, "crates", "run_jobtool")
 SCALE = ["0.125", "12.5", "7.3"]
-COMMANDS = [["list"], ["draw"], ["tidy"], ["check"], ["show"], ["info"], ["motions", *SCALE], ["scan"], ["picture"]]
+MOTIONS = ["motions", *SCALE]
+BY_TABLE = [*MOTIONS, "--table", "table"]
+COMMANDS = [["list"], ["draw"], ["tidy"], ["check"], ["show"], ["info"], MOTIONS, BY_TABLE, ["scan"], ["picture"], ["table"]]
 WORDS = ["0.0625", "4", "0.5", ".5", "5.", "-0", "-0.0", "0", "1000", "1000.0", "1000.00000000001", "4.0000000000001", "0.06249999999999", "-1", "nan",
          "inf", "abc", "", ".", "-.", "1e1", "+1", " 1", "1 ", "0x1", "1.2.3", "--1", "1,5", "00000000000001.5", "0.00000000000001", "999.99999999999"]
 TIDY = files.encode(8, 3, 3, [(1, 1, 0, 9), (1, 1, 1, 4)])
 UNTIDY = files.encode(8, 3, 3, [(1, 1, 1, 4), (1, 1, 0, 9)])
 SCAN = bytes([8, 3, 3, 4, 4, 4, 4, 9, 4, 4, 4, 4])
 PICTURE = told.picture_of(3, 3, SCAN[3:])
+TABLE = tables.encode(range(0, 256 * 7, 7))
+READY = {"in": TIDY, "untidy": UNTIDY, "scan": SCAN, "picture": PICTURE, "table": TABLE}    # one input of each sort
 OLD = b"as it was"
+
+
+def wanted(words, data, name=None):
+    """What a command should write of one input; the table of BY_TABLE is TABLE."""
+    return told.by_table(MOTIONS, b"table", TABLE, data, name) if words == BY_TABLE else told.wanted(words, data, name)
 
 
 # ---- running
@@ -179,6 +189,7 @@ def one_scan(run, rng, index):
     for words in [["list"], ["list", "--rungs"], ["scan"], *of_job]:
         (run.pipe if index % 10 else run.name)(words, bad)
     pictures(run, rng, kind, relief)
+    motions_by_tables(run, rng, file, mixed, bad)
     if index % 10 == 0:
         for words in of_job:
             run.name(words, mixed)
@@ -188,6 +199,17 @@ def one_scan(run, rng, index):
     if index % 5 == 0:
         comparisons(run, rng, file, mixed)
         several_inputs(run, {b"file": file, b"mixed": mixed, b"bad": bad})
+
+
+def motions_by_tables(run, rng, *jobs):
+    """Motions by a table that is legal, and by one that mostly is not."""
+    words = ["motions", *some_scale(rng)]
+    for field in (tables.encode(tables.some_table(rng)), next(tables.twice(rng, tables.some_table(rng), 1))):
+        put(run.folder, "table", field)
+        for data in jobs:
+            run.hold((words, "by a table"), run.start([*words, "--table", "table"], data), told.by_table(words, b"table", field, data))
+        run.pipe(["table"], field)
+    run.clean()
 
 
 def several_inputs(run, named):
@@ -248,6 +270,7 @@ def limits(run):
     surplus = bytes([8, 1, 1, 9]) + bytes(LIMIT - 4)
     run.hold("an input of the limit", run.start(["list"], surplus), Told(files.encode(8, 1, 1, [(0, 0, 0, 9)]), b"", DONE))
     put(run.folder, "in", surplus + b"\0")
+    put(run.folder, "table", TABLE)
     for words in COMMANDS:
         run.hold((words, "a longer input"), run.start(words, surplus + b"\0"), trouble(None, f"longer than {LIMIT} bytes"))
         run.hold((words, "a longer file"), run.start([*words, "in"]), trouble(b"in", f"longer than {LIMIT} bytes"))
@@ -275,14 +298,14 @@ def largest_plate(run):
 # ---- rows: one function for each promise about outputs, statuses, words and names
 
 def ready(run):
-    """One input of each sort, and a file that is to be replaced."""
+    """The inputs, and a file that is to be replaced."""
     run.clean()
-    for name, data in (("in", TIDY), ("untidy", UNTIDY), ("scan", SCAN), ("picture", PICTURE), ("out", OLD)):
+    for name, data in {**READY, "out": OLD}.items():
         put(run.folder, name, data)
 
 
 def input_of(words):
-    return {"list": "scan", "scan": "picture"}.get(words[0], "in")
+    return {"list": "scan", "scan": "picture", "table": "table"}.get(words[0], "in")
 
 
 def skipped(row, why):
@@ -531,7 +554,13 @@ WRONG = [[], [""], ["scan", "--kind", "", "picture"]] + split(
     "scan --kind 44 picture; scan --kind 4 --kind 4 picture; "
     "draw --rungs in; check in --rungs; show --rungs in; info --rungs in; same --rungs in in; motions 1 2 3 --rungs in; scan --rungs picture; "
     "picture scan --rungs; list --rungs --rungs scan; tidy in --rungs --rungs; tidy --rung in; --rungs; list --help; check in --version; list -h; "
-    "check --a-long-word-that-looks-like-an-option-and-is-none in")
+    "check --a-long-word-that-looks-like-an-option-and-is-none in; "
+    "table table table; table --rungs table; table --kind 4 table; table -o out -o out table; table table -o; table --table table table; --table; "
+    "--table table; list --table table scan; draw in --table table; tidy --table table in; check --table table in; show in --table table; "
+    "info --table table in; same in in --table table; scan picture --table table; picture --table table scan; motions 1 2 3 in --table; "
+    "motions --table; motions --table table; motions 1 2 --table table; motions 1 2 3 in in --table table; motions 1 2 3 in --tabl table; "
+    "motions 1 2 3 in --table table --table table; motions --table table 1 2 3 in --table table; motions 1 2 3 --table -; motions 1 2 3 - --table -; "
+    "motions --table - 1 2 3 -; motions -o out --table - 1 2 3; motions 1 2 3 in --table table --rungs; motions 1 2 3 in --table table -o")
 
 
 def row_statuses(run):
@@ -540,10 +569,11 @@ def row_statuses(run):
     cases = {DONE: [[*words, input_of(words)] for words in COMMANDS] + split("same in untidy; check in in; --help; -h; help; --version"),
              REFUSED: [[*words, "bad"] for words in COMMANDS] + split(
                  "check untidy; check in untidy in; same in other; show bad in; motions 5 1 1 in; motions x 1 1 in; list in; tidy scan; list picture; "
-                 "scan scan"),
+                 "scan scan; table in; table scan; motions 1 1 1 in --table bad; motions 1 1 1 none --table bad; motions 5 1 1 in --table table"),
              TROUBLE: [[*words, name] for words in COMMANDS for name in ("none", ".")] + WRONG + split(
                  "same in bad; same bad in; same in none; same none in; check none in; check untidy none; check none untidy; tidy in -o none/out; "
-                 "tidy in -o .; motions 0.1 1 1234567890123456 in")}
+                 "tidy in -o .; motions 0.1 1 1234567890123456 in; motions 1 1 1 in --table none; motions 1 1 1 bad --table none; "
+                 "motions 1 1 1 none --table table; motions 1 1 1 in --table .")}
     for status, some in cases.items():
         for words in some:
             got = run.start(words)
@@ -554,16 +584,17 @@ def row_statuses(run):
 def row_wrong_use(run):
     for words in WRONG:
         run.hold(("wrong use", words), run.start(words), wrong_use())
-    run.hold("nothing is written", (get(run.folder, "out"), sorted(os.listdir(run.folder))), (OLD, ["in", "out", "picture", "scan", "untidy"]))
+    run.hold("nothing is written", (get(run.folder, "out"), sorted(os.listdir(run.folder))), (OLD, sorted(["out", *READY])))
 
 
 def row_help(run):
     texts = [run.start([word]) for word in ("--help", "-h", "help")]
     run.hold("help", [(bool(text.out), text.said, text.status) for text in texts], [(True, b"", DONE)] * 3)
     run.hold("one help", len(set(texts)), 1)
-    for command in ("list", "draw", "tidy", "check", "show", "info", "same", "motions", "scan", "picture"):
+    for command in ("list", "draw", "tidy", "check", "show", "info", "same", "motions", "scan", "picture", "table"):
         run.hold(("help", command), f"\n  jobtool {command} ".encode() in texts[0].out, True)
-    for word in (b"-o OUT", b"--kind", b"--rungs", b"HALF_PITCH COLUMN_OFFSET ROW_OFFSET", b"standard input", b"0 done", b"1 refused", b"2 trouble"):
+    for word in (b"-o OUT", b"--kind", b"--rungs", b"--table", b"HALF_PITCH COLUMN_OFFSET ROW_OFFSET", b"standard input", b"0 done", b"1 refused",
+                 b"2 trouble"):
         run.hold(("help", word), word in texts[0].out, True)
     with open("/dev/full", "wb") as out:
         run.hold("help that cannot be written", run.start(["--help"], stdout=out), trouble(b"standard output", "No space left on device"))
@@ -603,7 +634,30 @@ def row_sentences(run):
             ("check", UNTIDY, 12, 11, "not tidy: the tidied file is unlike this one from byte 11 on"),
             ("motions 5 1 1", TIDY, 13, 0, "the half pitch is not a number from 0.0625 to 4"),
             ("motions 1 -1 1", TIDY, 13, 0, "the column offset is not a number from 0 to 1000"),
-            ("motions 1 1 1000.5", TIDY, 13, 0, "the row offset is not a number from 0 to 1000")):
+            ("motions 1 1 1000.5", TIDY, 13, 0, "the row offset is not a number from 0 to 1000"),
+            ("table", b"", 6, 0, "it is empty"),
+            ("table", TIDY, 7, 0, "this looks like a job file, not a sink table"),
+            ("table", b"\1\0\3", 7, 0, "this looks like a job file, not a sink table"),
+            ("table", PICTURE, 7, 0, "this looks like a picture, not a sink table"),
+            ("table", b"P5", 6, 0, "this looks like a picture, not a sink table"),
+            ("table", SCAN, 7, 0, "this looks like a scan, not a sink table"),
+            ("table", b"\4", 6, 0, "this looks like a scan, not a sink table"),
+            ("table", b"\5\2", 6, 0, "a sink table has 515 bytes, this file has 2"),
+            ("table", b"\5\2\0", 6, 0, "a sink table has 515 bytes, this file has 3"),
+            ("table", TABLE[:-1], 6, 0, "a sink table has 515 bytes, this file has 514"),
+            ("table", b"\0" + TABLE[1:], 7, 0, "the field has tag 0 and length 512, a sink table has 5 and 512"),
+            ("table", b"\5\2\1" + TABLE[3:-1], 7, 0, "the field has tag 5 and length 513, a sink table has 5 and 512"),
+            ("table", b"\xff\xff\xff", 7, 0, "the field has tag 255 and length 65535, a sink table has 5 and 512"),
+            ("table", b"\1\0\4", 7, 0, "the field has tag 1 and length 4, a sink table has 5 and 512"),
+            ("table", TABLE + b"\0", 11, 515, "the file goes on behind the sink table, from byte 515 on"),
+            ("table", TABLE[:3] + b"\0\1" + TABLE[5:], 15, 3,
+             "entry 0 at byte 3 is 1: entry 0 must be 0, each larger than the one before, none above 50000"),
+            ("table", TABLE[:5] + b"\0\x09\0\4" + TABLE[9:], 15, 7,
+             "entry 2 at byte 7 is 4: entry 0 must be 0, each larger than the one before, none above 50000"),
+            ("table", TABLE[:5] + b"\xea\x60\0\5" + TABLE[9:], 15, 5,
+             "entry 1 at byte 5 is 60000: entry 0 must be 0, each larger than the one before, none above 50000"),
+            ("table", TABLE[:-2] + b"\xc3\x51", 15, 513,
+             "entry 255 at byte 513 is 50001: entry 0 must be 0, each larger than the one before, none above 50000")):
         put(run.folder, "bad", data)
         want = Told(b"", f"refused {number} {place}\njobtool: bad: {sentence}\n".encode(), REFUSED)
         run.hold((words, sentence), run.start([*words.split(), "bad"]), want)
@@ -618,6 +672,119 @@ def row_sentences(run):
         run.hold(words, run.start(words), Told(line, b"", status))
 
 
+def row_table(run):
+    """Accepted tables, printed; the first and the last line of the built-in one by hand."""
+    rng = np.random.default_rng(5)
+    run.clean()
+    text = run.start(["table"], tables.encode(tables.BUILT_IN)).out.split(b"\n")
+    run.hold("first lines", text[:2], [b"depth 0: 0 micrometres, 0 at reach 0", b"depth 1: 20 micrometres, 22 at reach 0"])
+    run.hold("last line", text[255:], [b"depth 255: 6116 micrometres, 6727 at reach 0", b""])
+    for table in (tables.BUILT_IN, tables.LEAST, tables.GREATEST, *(tables.some_table(rng) for _ in range(10))):
+        run.pipe(["table"], tables.encode(table))
+        run.name(["table"], tables.encode(table))
+
+
+def bad_tables():
+    """Fields of every refusal, with faults alone and together."""
+    rng = np.random.default_rng(6)
+    table = tables.some_table(rng)
+    field = tables.encode(table)
+    cut = [field[:length] for length in (0, 1, 2, 3, 4, 258, 513, 514)]
+    opened = [field[:at] + bytes([byte]) + field[at + 1:] for at in range(3) for byte in (0, 1, 4, 5, 8, 80, 255)]
+    broken = [tables.encode(one) for one in list(tables.entry_ends(table))[::97]]
+    return [bad for bad in cut + opened + broken + [*tables.surplus(field), *tables.twice(rng, table, 30)] if tables.read(bad).number]
+
+
+def row_table_refused(run):
+    run.clean()
+    for number, field in enumerate(bad_tables()):
+        (run.name if number % 8 == 0 else run.pipe)(["table"], field)
+    run.pipe(["table"], TABLE + bytes(LIMIT - len(TABLE)))
+
+
+def behind(words, option):
+    """The words with an option at each place behind the command, but not between another option and its value."""
+    return [words[:at] + option + words[at:] for at in range(1, len(words) + 1) if words[at - 1] != "-o"]
+
+
+def row_motions_by_table(run):
+    """The option may stand anywhere behind the command; without it the built-in table is used."""
+    want = wanted(BY_TABLE, TIDY, b"in")
+    for order in behind([*MOTIONS, "in"], ["--table", "table"]):
+        run.hold(order, run.start(order), want)
+    for order in behind(MOTIONS, ["--table", "table"]):
+        run.hold((order, "a job from standard input"), run.start(order, TIDY), want)
+    for words in ([*MOTIONS, "in", "-o", "out"], ["motions", "-o", "out", *SCALE, "in"]):
+        for order in behind(words, ["--table", "table"]):
+            put(run.folder, "out", OLD)
+            run.hold(order, (run.start(order), get(run.folder, "out")), (Told(b"", b"", DONE), want.out))
+    put(run.folder, "built-in", tables.encode(tables.BUILT_IN))
+    run.hold("the built-in table", run.start([*MOTIONS, "in", "--table", "built-in"]), wanted(MOTIONS, TIDY))
+    run.hold("the table's file is replaced", (run.start([*BY_TABLE, "in", "-o", "table"]), get(run.folder, "table")), (Told(b"", b"", DONE), want.out))
+
+
+def row_sinks_by_table(run):
+    """By hand: the smallest sinks and the largest, and the tenth rounded down."""
+    job = files.encode(8, 3, 3, [(1, 1, 1, 1), (1, 1, 1, 2), (1, 1, 1, 255), (1, 1, 0, 9), (1, 1, 0, 10), (1, 1, 0, 255)])
+    for table, sinks in ((tables.LEAST, "0.001 0.002 0.255 0.009 0.011 0.28"), (tables.GREATEST, "49.746 49.747 50 54.729 54.73 55")):
+        put(run.folder, "table", tables.encode(table))
+        got = run.start([*BY_TABLE], job).out.decode().split("\n")
+        run.hold(("sinks", sinks), [line for line in got if line.startswith("sink")], ["sink " + sink for sink in sinks.split()])
+        run.hold(("all lines", sinks), run.start([*BY_TABLE], job), told.by_table(MOTIONS, b"table", tables.encode(table), job))
+
+
+def row_table_from_standard_input(run):
+    want = wanted(BY_TABLE, TIDY, b"in")
+    for order in behind([*MOTIONS, "in"], ["--table", "-"]):
+        run.hold(order, run.start(order, TABLE), want)
+    run.hold("to a file", (run.start([*MOTIONS, "in", "-o", "out", "--table", "-"], TABLE), get(run.folder, "out")), (Told(b"", b"", DONE), want.out))
+    run.hold("refused", run.start([*MOTIONS, "in", "--table", "-"], TABLE + b"\0"), told.table_refusal(None, TABLE + b"\0"))
+    run.hold("nothing", run.start([*MOTIONS, "in", "--table", "-"], b""), told.table_refusal(None, b""))
+    run.hold("too long", run.start([*MOTIONS, "in", "--table", "-"], bytes(LIMIT + 1)), trouble(None, f"longer than {LIMIT} bytes"))
+    for words in ([*MOTIONS, "--table", "-"], [*MOTIONS, "-", "--table", "-"], ["motions", "--table", "-", *SCALE, "-", "-o", "out"]):
+        for data in (TABLE, TIDY):
+            run.hold((words, "both"), run.start(words, data), wrong_use())
+    run.hold("out", get(run.folder, "out"), want.out)
+
+
+def row_table_judged_first(run):
+    """Before the job is read and before the output is opened; what is refused or cannot be read leaves the output as it was."""
+    bad = TABLE[:-2] + b"\0\0"
+    for name, data in (("bad", bad), ("badjob", TIDY[:-1]), ("long", TABLE + bytes(LIMIT))):
+        put(run.folder, name, data)
+    refused, missing = told.table_refusal(b"bad", bad), "No such file or directory"
+    for words, want in ((["in", "--table", "bad"], refused), (["none", "--table", "bad"], refused), (["badjob", "--table", "bad"], refused),
+                        (["in", "--table", "none"], trouble(b"none", missing)), (["lost", "--table", "none"], trouble(b"none", missing)),
+                        (["badjob", "--table", "none"], trouble(b"none", missing)), (["in", "--table", "."], trouble(b".", "Is a directory")),
+                        (["in", "--table", "long"], trouble(b"long", f"longer than {LIMIT} bytes")),
+                        (["in", "--table", "in"], told.table_refusal(b"in", TIDY)), (["in", "--table", "scan"], told.table_refusal(b"scan", SCAN)),
+                        (["badjob", "--table", "table"], wanted(BY_TABLE, TIDY[:-1], b"badjob")),
+                        (["none", "--table", "table"], trouble(b"none", missing))):
+        for output in ([], ["-o", "out"], ["-o", "new"]):
+            run.hold((words, output), run.start([*MOTIONS, *words, *output]), want)
+        run.hold((words, "files"), (get(run.folder, "out"), os.path.exists(run.path("new")), parts(run)), (OLD, False, []))
+    run.hold("no output", run.start([*MOTIONS, "in", "--table", "bad", "-o", "none/out"]), refused)
+    run.hold("no output", run.start([*BY_TABLE, "in", "-o", "none/out"]), trouble(b"none/out", missing))
+    run.hold("a wrong scale", run.start(["motions", "5", "1", "1", "in", "--table", "bad"]), refused)
+    run.hold("a job from standard input", run.start([*MOTIONS, "--table", "bad"], TIDY), refused)
+    for field in bad_tables():
+        put(run.folder, "bad", field)
+        run.hold(("refused", field[:99]), run.start([*MOTIONS, "in", "--table", "bad", "-o", "out"]), told.table_refusal(b"bad", field))
+    run.hold("out", get(run.folder, "out"), OLD)
+
+
+def row_names_of_tables_escaped(run):
+    for name in STRANGE:
+        run.hold(("missing", name), run.start([*MOTIONS, "in", "--table", name]), trouble(name, "No such file or directory"))
+        with open(os.path.join(os.fsencode(run.folder), name), "wb") as out:
+            out.write(TABLE + b"\0")
+        run.hold(("refused", name), run.start([*MOTIONS, "in", "--table", name]), told.table_refusal(name, TABLE + b"\0"))
+        run.hold(("table", name), run.start(["table", name]), told.table_refusal(name, TABLE + b"\0"))
+        os.remove(os.path.join(os.fsencode(run.folder), name))
+    for name in (b"a" * 256, b"a" * 5000):
+        run.hold(("a long name", len(name)), run.start([*MOTIONS, "in", "--table", name]), trouble(name, "File name too long"))
+
+
 def hold_at_terminal(run, words, want):
     """A run with a terminal for standard input, at which nobody types."""
     try:
@@ -630,7 +797,7 @@ def hold_at_terminal(run, words, want):
 
 
 def row_forgotten_offset(run):
-    for words in split("motions 0.5 10 in; motions 0.5 10 ./in; motions 0.5 10 none; motions -o out 0.5 10 in"):
+    for words in split("motions 0.5 10 in; motions 0.5 10 ./in; motions 0.5 10 none; motions -o out 0.5 10 in; motions 0.5 10 --table table in"):
         hold_at_terminal(run, words, wrong_use())
         run.hold((words, "with nothing to read"), run.start(words, stdin=subprocess.DEVNULL), wrong_use())
         with waiting(run, words) as ran:
@@ -697,7 +864,7 @@ def row_long_names(run):
     os.makedirs(os.path.join(os.fsencode(run.folder), deep))
     run.hold("into a deep folder", run.start(["tidy", "untidy", "-o", deep + b"/out"]), Told(b"", b"", DONE))
     run.hold("from a deep folder", run.start(["check", deep + b"/out"]), Told(b"tidy\n", b"", DONE))
-    run.hold("nothing is left", sorted(os.listdir(run.folder)), sorted(["in", "out", "picture", "scan", "untidy", "d" * 200]))
+    run.hold("nothing is left", sorted(os.listdir(run.folder)), sorted(["out", *READY, "d" * 200]))
 
 
 def row_names_shown_whole(run):

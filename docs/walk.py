@@ -54,8 +54,12 @@ def job_file(head, plunges):
     return head + b"".join(plunges) + b"\3\0\4" + struct.pack(">I", len(plunges))
 
 
+def table_field(entries):
+    return b"\5" + struct.pack(">H", 2 * len(entries)) + struct.pack(f">{len(entries)}H", *entries)
+
+
 def made_files(jobtool):
-    """The picture; the coin's list from its last plunge to its first, one of them twice; and the list without the foot of a stem."""
+    """The picture; the coin's list from its last plunge to its first, one of them twice; the list without the foot of a stem; and a sink table."""
     scan = bytes([8, SIDE, SIDE]) + coin()
     job = subprocess.run([jobtool, "list"], input=scan, stdout=subprocess.PIPE, check=True).stdout
     plunges = [job[at:at + FIELD] for at in range(HEAD, len(job) - FIELD, FIELD)]
@@ -63,6 +67,7 @@ def made_files(jobtool):
         "coin.pgm": b"P5\n%d %d\n255\n" % (SIDE, SIDE) + coin(),
         "other.job": job_file(job[:HEAD], plunges[::-1] + plunges[:1]),
         "less.job": job_file(job[:HEAD], [plunge for plunge in plunges if plunge != FOOT]),
+        "graphite.table": table_field([22 * d for d in range(256)]),
     }
 
 

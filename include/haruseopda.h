@@ -6,7 +6,8 @@
  *
  * Every call
  *   - takes each buffer as a pointer and its length in bytes, and reads and writes nothing outside it. The caller owns all buffers; nothing is kept
- *     after the call returns, nothing is allocated. A pointer may be anything if its length is 0.
+ *     after the call returns, nothing is allocated. A pointer may be anything if its length is 0. A sink table alone has no length: it is always
+ *     HARU_TABLE_ENTRIES numbers, and a null or shorter one cannot be told.
  *   - may be given buffers longer than needed: bytes past what it reads or writes are ignored, and stay as they are.
  *   - takes kinds, sides, levels, columns, rows and rung or residue numbers as 32 bits. One that is out of its range gets the refusal of its argument
  *     and is never cut: kind 260 gets 1 though its low byte is 4, width 65539 gets 2, level 256 gets 3, and so does a column of -1, that is 4294967295.
@@ -17,7 +18,7 @@
  *     was; work buffers too, but after 5 and 12 their first width * height bytes hold anything, as they do when the call is done.
  *   - may be made from several threads at once, if they share no buffer that one of them writes. It takes less than 48 KiB of stack (40 measured).
  *
- * Refusals (place is 0 unless said otherwise), tried in the order 1, 2, 3; the file's 6 to 11, 1 and 2 in reading order; then 4, 13, 14, 12, 5:
+ * Refusals (place is 0 unless said otherwise), tried in the order 1, 2, 3; the file's 6 to 11, 1 and 2 in reading order; then 4, 13, 14, 12, 15, 5:
  *    1  kind is not 4 or 8 (in a file: at the head field)
  *    2  width or height is not 1 to 240 (in a file: at the head field)
  *    3  level not 1 to 255; rung or residue number not 1 to 120; single cell off the plate
@@ -32,6 +33,7 @@
  *   12  tidy check: the file is not tidy (place: the first byte unlike the tidied file)
  *   13  a scale number is outside its range or not a number
  *   14  the plunge number is not below the total
+ *   15  sink table: an entry breaks the rule (place: the first byte of the first such entry in the field)
  *
  * Link with libharuseopda.a, which `rt staticlib haruseopda` writes to target/staticlib.
  */
@@ -128,6 +130,27 @@ haru_list_answer haru_tidy(const uint8_t *file, size_t file_len, uint8_t *out, s
 /* Whether tidying would return the file's own bytes: number 0, else 12 with the first byte unlike. The file's refusals, 4, 12. Work buffers as above. */
 haru_answer haru_check(const uint8_t *file, size_t file_len, uint8_t *a, size_t a_len, uint8_t *b, size_t b_len, uint8_t *c, size_t c_len);
 
+/* ---- sink tables */
+
+/* A sink table has a number of whole micrometres for each depth, 0 to 255. The caller owns it, keeps it between calls and lends it to them; a press
+ * starts with the built-in one. Two threads may read one table at once; one that loads into it must be alone with it. */
+#define HARU_TABLE_ENTRIES 256
+
+/* A table's field: tag 5, length 512, then the entries in two bytes each, high byte first. */
+#define HARU_TABLE_BYTES 515
+
+/* Puts the built-in table into a lent one: entry d is 20 * d + d * d / 64, rounded down. */
+void haru_built_in_table(uint16_t table[HARU_TABLE_ENTRIES]);
+
+/* Loads a table from a field of any bytes in place of the table in force; refused, it keeps all 256 entries. Entry 0 must be 0, each entry larger than
+ * the one before, none above 50000. Refusals, the first met: 6 (fewer than three bytes), 7 (another tag or length), 6 (fewer than 515), each at place 0;
+ * 11 (more than 515, place 515); 15 (an entry breaks the rule, place 3 + 2 * entry of the first one). */
+haru_answer haru_load_table(const uint8_t *field, size_t field_len, uint16_t table[HARU_TABLE_ENTRIES]);
+
+/* Writes a table as a field into out, HARU_TABLE_BYTES long, which loads again as the same table. Refusals 15 (a load of it would be refused, with the
+ * same place), 5 (place 515). */
+haru_answer haru_write_table(const uint16_t table[HARU_TABLE_ENTRIES], uint8_t *out, size_t out_len);
+
 /* ---- press motions */
 
 /* Millimetres: half the pitch of the cells (0.0625 to 4), and the offsets of columns and rows (0 to 1000 each), ends included. */
@@ -138,8 +161,7 @@ typedef struct {
 } haru_scale;
 
 /* changed: 1 for a change to an electrode `width` wide, 0 for a stay (width is then 0). x, y: where to travel. sink: how deep: the table's whole
- * micrometres for the depth d, 20 * d + d * d / 64, and for reach 0 a tenth of them more, each rounded down. Millimetres; changed and all four are 0 on a
- * refusal. */
+ * micrometres for the depth, and for reach 0 a tenth of them more, rounded down. Millimetres; changed and all four are 0 on a refusal. */
 typedef struct {
     uint32_t number;
     uint32_t changed;
@@ -150,8 +172,11 @@ typedef struct {
     double sink;
 } haru_motions_answer;
 
-/* The motions of plunge number i (from 0) of a file. The file's refusals, 13, 14. Each call reads the whole file first. */
+/* The motions of plunge number i (from 0) of a file, by the built-in table. The file's refusals, 13, 14. Each call reads the whole file first. */
 haru_motions_answer haru_motions(const uint8_t *file, size_t file_len, size_t i, haru_scale scale);
+
+/* The same by another table: one that was loaded, or any 256 numbers. */
+haru_motions_answer haru_table_motions(const uint16_t table[HARU_TABLE_ENTRIES], const uint8_t *file, size_t file_len, size_t i, haru_scale scale);
 
 #ifdef __cplusplus
 }

@@ -19,6 +19,8 @@ INFINITY, MINUS_INFINITY = 0x7FF << 52, 0xFFF << 52
 NANS = [INFINITY + 1, INFINITY + (1 << 51), MINUS_INFINITY + 1, MINUS_INFINITY + (1 << 51), 2 ** 63 - 1, 2 ** 64 - 1]
 MINUS_ZERO = 1 << 63
 LARGEST = INFINITY - 1
+# The sink table that a press starts with.
+BUILT_IN = [20 * depth + depth * depth // 64 for depth in range(256)]
 
 
 # ---- floats as bits
@@ -44,7 +46,7 @@ def within(low, high, pattern):
 
 # ---- the call
 
-def motions(data, i, scale):
+def motions(data, i, scale, table):
     kind, w, h, plunges = read(data)
     half, across, down = scale
     if not (within(Fraction(1, 16), 4, half) and within(0, 1000, across) and within(0, 1000, down)):
@@ -56,14 +58,13 @@ def motions(data, i, scale):
     changed = i == 0 or plunges[i - 1][2] != reach
     first = [("change", rounded(2 * (2 * reach + 1) * half))] if changed else [("stay",)]
     travel = [rounded(offset + rounded((2 * cell + 1) * half)) for offset, cell in ((across, x), (down, y))]
-    entry = 20 * depth + depth * depth // 64
-    micrometres = entry * 11 // 10 if reach == 0 else entry
+    micrometres = table[depth] * 11 // 10 if reach == 0 else table[depth]
     return first + [("travel", *travel), ("sink", rounded(Fraction(micrometres, 1000)))]
 
 
-def printed(record):
+def printed(record, table=BUILT_IN):
     try:
-        return " ".join(" ".join([name] + [f"{bits(n):016x}" for n in numbers]) for name, *numbers in motions(*record)) + "\n"
+        return " ".join(" ".join([name] + [f"{bits(n):016x}" for n in numbers]) for name, *numbers in motions(*record, table)) + "\n"
     except Refused as e:
         return refused(*e.args)
 

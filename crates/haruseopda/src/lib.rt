@@ -13,6 +13,9 @@ ghost use Rattle.erosion_maps.specs.Calls.{ErosionMap, ResidueMap, ScoreMap, vo
 ghost use Rattle.reading.specs.Reading.{read};
 ghost use Rattle.jobs.specs.Calls.{Drawn, ListCall, TidyCall};
 ghost use Rattle.job_check.specs.Checking.{CheckCall};
+ghost use Rattle.refusal.specs.Refusals.{Answered};
+ghost use Rattle.sink.specs.Sink.{builtIn};
+ghost use Rattle.table_field.specs.Tables.{Loaded, tableField, writeVerdict};
 ghost use Rattle.motion.specs.Motions.{motionsIn};
 ghost use Rattle.c_arguments.specs.Scale.{scaleOf};
 ghost use Rattle.c_answers.specs.Told.{ofCell, ofVolume, Told};
@@ -294,12 +297,52 @@ pub extern "C" fn haru_check(file: &[u8], a: &mut [u8], b: &mut [u8], c: &mut [u
     c_answers::of_verdict(job_check::check(file, a, b, c))
 }
 
+// ---- sink tables
+
+// The table that a press starts with, into a lent one.
+#[no_mangle]
+pub extern "C" fn haru_built_in_table(table: &mut [u16; sink::ENTRIES])
+    ensures { λ _. ⌜ now (table .exit) ≡ builtIn ⌝ }
+{
+    *table = sink::built_in();
+}
+
+// Loads a table from a field in place of the table in force.
+#[no_mangle]
+pub extern "C" fn haru_load_table(field: &[u8], table: &mut [u16; sink::ENTRIES]) -> HaruAnswer
+    ensures { λ r. ⌜ Told (Loaded (now (field .entry)) (now (table .entry)) (now (table .exit))) r ⌝ }
+{
+    c_answers::of_verdict(table_field::load(field, table))
+}
+
+// Writes a table as a field into out.
+#[no_mangle]
+pub extern "C" fn haru_write_table(table: &[u16; sink::ENTRIES], out: &mut [u8]) -> HaruAnswer
+    ensures { λ r. ⌜ Told (Answered (writeVerdict (now (table .entry)) (now (out .entry))) (tableField (now (table .entry)))
+        (now (out .entry)) (now (out .exit))) r ⌝ }
+{
+    c_answers::of_verdict(table_field::write(table, out))
+}
+
 // ---- press motions
 
-// The motions of plunge number i of a file.
+// The motions of plunge number i of a file, by the built-in table.
 #[no_mangle]
 pub extern "C" fn haru_motions(file: &[u8], i: usize, scale: HaruScale) -> HaruMotions
-    ensures { λ r. ⌜ r ≡ ofMotions (motionsIn (now (file .entry)) i (scaleOf scale)) ⌝ }
+    ensures { λ r. ⌜ r ≡ ofMotions (motionsIn builtIn (now (file .entry)) i (scaleOf scale)) ⌝ }
 {
-    c_answers::of_motions(motion::plunge_motions(file, i, c_arguments::scale_of(scale)))
+    c_answers::of_motions(motion::built_in_motions(file, i, c_arguments::scale_of(scale)))
+}
+
+// The same by another table.
+#[no_mangle]
+pub extern "C" fn haru_table_motions(
+    table: &[u16; sink::ENTRIES],
+    file: &[u8],
+    i: usize,
+    scale: HaruScale,
+) -> HaruMotions
+    ensures { λ r. ⌜ r ≡ ofMotions (motionsIn (now (table .entry)) (now (file .entry)) i (scaleOf scale)) ⌝ }
+{
+    c_answers::of_motions(motion::plunge_motions(table, file, i, c_arguments::scale_of(scale)))
 }

@@ -62,7 +62,7 @@ fn print_commands() -> bool {
     }
     io::write_all(
         STDOUT_FILENO,
-        b"  jobtool same JOB JOB        whether two job files cut the same relief\n  jobtool motions HALF_PITCH COLUMN_OFFSET ROW_OFFSET [JOB]\n                              the press motions, in millimetres\n",
+        b"  jobtool same JOB JOB        whether two job files cut the same relief\n  jobtool motions HALF_PITCH COLUMN_OFFSET ROW_OFFSET [JOB]\n                              the press motions, in millimetres; --table FILE: by a shop's own sink table\n  jobtool table [FILE]        a sink table, checked, as text\n",
     )
 }
 

@@ -2,6 +2,7 @@
 mod help;
 mod moves;
 mod refusals;
+mod tables;
 
 use comparison::Comparison;
 use libc::STDERR_FILENO;
@@ -11,11 +12,12 @@ use tool_answers::Outcome;
 use tool_words::Command;
 ghost use Prim.Native.Nat.{_≤_};
 
-// What is asked: a command, its scale, the kind of a scan that is made, whether the rungs climbed are told, which plain word is the first
-// input, and whether what is told is headed by its input's name.
+// What is asked: a command, its scale, the sink table in force, the kind of a scan that is made, whether the rungs climbed are told, which plain
+// word is the first input, and whether what is told is headed by its input's name.
 struct Request {
     command: Command,
     scale: Scale,
+    table: [u16; sink::ENTRIES],
     kind: u8,
     rungs: bool,
     first: usize,
@@ -56,6 +58,7 @@ fn print_headed(fd: i32, request: Request, number: usize) -> bool {
         Command::Show => print_heading(fd, number, b":\n"),
         Command::Info => print_heading(fd, number, b":\n"),
         Command::Motions => true,
+        Command::Table => true,
         Command::List => true,
         Command::Draw => true,
         Command::Tidy => true,
@@ -71,10 +74,12 @@ fn print_headed(fd: i32, request: Request, number: usize) -> bool {
 fn print_answer(fd: i32, request: Request, input: &[u8], out: &[u8], n: usize) -> bool {
     let command = request.command;
     let scale = request.scale;
+    let table = request.table;
     match command {
         Command::Check => printing::print_tidy(fd),
         Command::Show => printing::print_file(fd, input),
-        Command::Motions => moves::print_motions(fd, input, scale),
+        Command::Motions => moves::print_motions(fd, &table, input, scale),
+        Command::Table => print_bytes(fd, out, n),
         Command::List => print_bytes(fd, out, n),
         Command::Draw => print_bytes(fd, out, n),
         Command::Tidy => print_bytes(fd, out, n),
@@ -431,11 +436,17 @@ fn run(
     if kind == 0 {
         return help::usage();
     }
+    let loaded = tables::given_table(options.table, input);
+    if loaded.status != 0 {
+        return loaded.status;
+    }
+    let table = loaded.table;
     let first = tool_words::first_input(command);
     let headed = tool_words::plain_word(1) != 0;
     let request = Request {
         command,
         scale,
+        table,
         kind,
         rungs: options.rungs != 0,
         first,
@@ -469,6 +480,7 @@ pub extern "C" fn jobtool(
         Command::Info => run(command, input, out, a, b, c),
         Command::Same => run(command, input, out, a, b, c),
         Command::Motions => run(command, input, out, a, b, c),
+        Command::Table => run(command, input, out, a, b, c),
         Command::Scan => run(command, input, out, a, b, c),
         Command::Picture => run(command, input, out, a, b, c),
     }

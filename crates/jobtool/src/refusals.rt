@@ -43,6 +43,7 @@ fn append_reason(
         Command::Info => reasons::append_of_job(page, at, input, refusal),
         Command::Same => reasons::append_of_job(page, at, input, refusal),
         Command::Motions => reasons::append_of_job(page, at, input, refusal),
+        Command::Table => table_text::append_of_table(page, at, input, refusal),
         Command::Scan => reasons::append_of_scan(page, at, input, refusal),
         Command::Picture => append_picture(page, at, input, refusal),
         Command::Help => phrases::append(page, at, b""),

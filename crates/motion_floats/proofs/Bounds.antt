@@ -1,9 +1,10 @@
--- Every number of a motion lies from 2^-10 to below 2^20, so that it is printed as the shortest decimal. The law holds for reaches below 512 and
--- columns and rows below 1024; those of a readable file are less.
+-- Every number of a motion lies from 2^-10 to below 2^20, so that it is printed as the shortest decimal. The law holds for every sink table that
+-- keeps the rule, reaches below 512, and columns and rows below 1024; those of a readable file are less.
 use mathlib.Core.Path.{_≡_, refl, sym, ap, _∙_, subst}
 use mathlib.Core.Bool.{Bool, true, false, cond, _||_, true≢false}
+use mathlib.Core.List.{List}
 use Prim.Native.Nat.{ℕ, zero, suc, _+_, _-_, _*_, _^_, _≤_, _<_}
-use native.Mathlib.Nat.{zero-lt-suc, mul-le-mul, mul-pos, mul-comm, mul-assoc, mul-right-comm, mul-le-mul-right, le-trans, le-of-eq, zero-mul}
+use native.Mathlib.Nat.{zero-lt-suc, mul-pos, mul-comm, mul-assoc, mul-right-comm, mul-le-mul-right, le-trans, le-of-eq, zero-mul}
 use native.Mathlib.Omega.{arith}
 use borrow.Author.Tests.{lt-ltb}
 use lib.Dec.{T, eqb, eqb→eq, ltb→lt, lt→ltb, lit≤, lit<}
@@ -15,8 +16,9 @@ use lib.Ieee.Back.{round-whole}
 use lib.Ieee.Order.{round-mono}
 use lib.Ieee.Positive.{num, den, positive, den-pos, own-value, value→cross, positive-of-value, le→cross, cross→le, values-of-le, between, mul-at}
 use Rattle.geometry.specs.declared.Plunge.{Plunge}
-use Rattle.sink.specs.Sink.{micrometres, sinkMicrometres, whole, sinkMillimetres}
-use Rattle.sink.proofs.Sinks.{entry-least, sink-most}
+use Rattle.sink.specs.Sink.{sinkMicrometres, whole, sinkMillimetres}
+use Rattle.sink.specs.Rule.{Rule}
+use Rattle.sink.proofs.Sinks.{least-sink, largest-sink}
 use Rattle.motion_floats.specs.declared.Scale.{Scale}
 use Rattle.motion_floats.specs.declared.Motion.{Motion}
 use Rattle.motion_floats.specs.declared.Motion.the-variants.{Change, Stay, Travel, Sink}
@@ -205,10 +207,10 @@ div-is (inf s) p = absurd p
 div-is (fin true m e) p = absurd p
 div-is (fin false m e) p = refl
 
-thousandth : (n a c : ℕ) → 20 ≤ n → n ≤ 8000 → a * 1 ≡ n * c → (1000 * c ≤ a * 1 * 1024) × (a * 1 ≤ 8 * (1000 * c))
+thousandth : (n a c : ℕ) → 1 ≤ n → n ≤ 55000 → a * 1 ≡ n * c → (1000 * c ≤ a * 1 * 1024) × (a * 1 ≤ 55 * (1000 * c))
 thousandth n a c lo hi e =
-    let f : 20 * c ≤ n * c = mul-le-mul-right c lo in
-    let t : n * c ≤ 8000 * c = mul-le-mul-right c hi in
+    let f : 1 * c ≤ n * c = mul-le-mul-right c lo in
+    let t : n * c ≤ 55000 * c = mul-le-mul-right c hi in
     (omega arith, omega arith)
 
 pub thousand-pos : (c : ℕ) → 0 < c → 0 < 1000 * c
@@ -220,22 +222,12 @@ pub thousandths : (n : ℕ) → 1 ≤ n → n ≤ 2 ^ 53
 thousandths n lo hi =
     ap (λ (y : Float). div binary64 (whole n) y) thousand-is ∙ div-is (whole n) (positive-of-value (whole n) n 1 (whole-value n hi) lo)
 
-quotient : (n : ℕ) → 20 ≤ n → n ≤ 8000 → Between 8 (div binary64 (whole n) (whole 1000))
+quotient : (n : ℕ) → 1 ≤ n → n ≤ 55000 → Between 55 (div binary64 (whole n) (whole 1000))
 quotient n lo hi =
     let l : n ≤ 2 ^ 53 = omega arith in
     let t = thousandth n (num (whole n)) (den (whole n)) lo hi (value→cross (whole n) n 1 (whole-value n l)) in
-    subst (λ (z : Float). Between 8 z) (sym (thousandths n (omega arith) l))
-    (rounded 8 (num (whole n) * 1) (1000 * den (whole n)) (lit< tt) (lit≤ tt) (thousand-pos (den (whole n)) (den-pos (whole n))) (t .0) (t .1))
-
-pub least-sink : (reach d : ℕ) → 1 ≤ d → 20 ≤ sinkMicrometres reach d
-least-sink reach d h = let l : 20 ≤ micrometres d = omega arith in le-trans l (entry-least reach (micrometres d))
-
-pub most-sink : (reach d : ℕ) → d < 256 → sinkMicrometres reach d ≤ 8000
-most-sink reach d h =
-    let l : d ≤ 255 = omega arith in
-    let s : d * d ≤ 255 * 255 = mul-le-mul l l in
-    let m : sinkMicrometres 0 d ≤ 8000 = omega arith in
-    le-trans (sink-most reach d) m
+    subst (λ (z : Float). Between 55 z) (sym (thousandths n lo l))
+    (rounded 55 (num (whole n) * 1) (1000 * den (whole n)) (lit< tt) (lit≤ tt) (thousand-pos (den (whole n)) (den-pos (whole n))) (t .0) (t .1))
 
 -- ---- the motions
 
@@ -256,9 +248,11 @@ travel-printable p offset cell e o h =
     (subst (λ (x : Float). T (le offset x)) thousand-is (test (le offset (whole 1000)) (w .1)))
     (product (2 * cell + 1) p (omega arith) (omega arith) e))
 
-pub sink-printable : (reach d : ℕ) → 1 ≤ d → d < 256 → printable (sinkMillimetres reach d) ≡ true
-sink-printable reach d h g =
-    between-printable 8 (sinkMillimetres reach d) (lit< tt) (quotient (sinkMicrometres reach d) (least-sink reach d h) (most-sink reach d g))
+-- from one micrometre to 55 millimetres
+pub sink-printable : (table : List ℕ) → Rule table → (reach d : ℕ) → 1 ≤ d → d < 256 → printable (sinkMillimetres table reach d) ≡ true
+sink-printable table rule reach d h l =
+    between-printable 55 (sinkMillimetres table reach d) (lit< tt)
+    (quotient (sinkMicrometres table reach d) (least-sink table rule reach d h l) (largest-sink table rule reach d l))
 
 -- every number that a motion carries is printable
 abbrev pub printableMotion : Motion → Bool
@@ -267,11 +261,11 @@ printableMotion Stay = true
 printableMotion (Travel x y) = cond (printable x) (printable y) false
 printableMotion (Sink depth) = printable depth
 
-pub motions-printable : (s : Scale) (changed : Bool) (q : Plunge) → scaleInRange s ≡ true → q .reach .0 < 512 → q .column < 1024 → q .row < 1024
-    → 1 ≤ q .depth → q .depth < 256
-    → (printableMotion (motionsOf s changed q .first) ≡ true) × (printableMotion (motionsOf s changed q .second) ≡ true)
-    × (printableMotion (motionsOf s changed q .third) ≡ true)
-motions-printable s changed q e r x y d d' =
+pub motions-printable : (table : List ℕ) → Rule table → (s : Scale) (changed : Bool) (q : Plunge) → scaleInRange s ≡ true → q .reach .0 < 512
+    → q .column < 1024 → q .row < 1024 → 1 ≤ q .depth → q .depth < 256
+    → (printableMotion (motionsOf table s changed q .first) ≡ true) × (printableMotion (motionsOf table s changed q .second) ≡ true)
+    × (printableMotion (motionsOf table s changed q .third) ≡ true)
+motions-printable table rule s changed q e r x y d d' =
     let p = within sixteenth (whole 4) (s .«half_pitch») in
     let c = within (whole 0) (whole 1000) (s .«column_offset») in
     let o = within (whole 0) (whole 1000) (s .«row_offset») in
@@ -280,7 +274,7 @@ motions-printable s changed q e r x y d d' =
       first changed (change-printable s (q .reach .0) e r),
       rw (travel-printable (s .«half_pitch») (s .«column_offset») (q .column) (w .0) (v .0) x)
           (travel-printable (s .«half_pitch») (s .«row_offset») (q .row) (w .0) (v .1) y),
-      sink-printable (q .reach .0) (q .depth) d d',
+      sink-printable table rule (q .reach .0) (q .depth) d d',
     )
   where
     first : (b : Bool) → printable (changeWidth s (q .reach .0)) ≡ true → printableMotion (cond b (Change (changeWidth s (q .reach .0))) Stay) ≡ true

@@ -1,7 +1,8 @@
--- The millimetres of a sink, as floats, are in the order of its micrometres: rounding makes no two of them alike. So they rise strictly with the
--- depth at each reach, and no reach sinks deeper than reach 0.
+-- The millimetres of a sink, as floats, are in the order of its micrometres: rounding makes no two of them alike. So by every table that keeps the
+-- rule they rise strictly with the depth at each reach, and no reach sinks deeper than reach 0.
 use mathlib.Core.Path.{_≡_, sym, ap, _∙_, subst}
 use mathlib.Core.Bool.{true, false}
+use mathlib.Core.List.{List}
 use Prim.Native.Nat.{ℕ, _+_, _*_, _/_, _^_, _≤_, _<_}
 use native.Mathlib.Nat.{mul-assoc, mul-comm, mul-right-comm, mul-pos, mul-le-mul-right, le-trans, le-of-eq, lt-of-lt-of-le}
 use native.Mathlib.Omega.{arith}
@@ -13,8 +14,9 @@ use lib.Ieee.Exact.{HasValue, round-exact}
 use lib.Ieee.Order.{round-mono}
 use lib.Ieee.Positive.{num, den, positive, den-pos, own-value, value→cross, positive-of-value, values-of-le, between}
 use Rattle.sink.specs.Sink.{sinkMicrometres, whole, sinkMillimetres}
-use Rattle.sink.proofs.Sinks.{sink-rises, sink-most}
-use Rattle.motion_floats.proofs.Bounds.{whole-value, thousandths, thousand-pos, least-sink, most-sink}
+use Rattle.sink.specs.Rule.{Rule}
+use Rattle.sink.proofs.Sinks.{sink-rises, sink-most, least-sink, largest-sink}
+use Rattle.motion_floats.proofs.Bounds.{whole-value, thousandths, thousand-pos}
 
 -- ---- a whole number of 4096ths is a float; there are some between any two thousandths
 
@@ -103,12 +105,13 @@ thousandth-rises n m lo h hi =
 
 -- ---- the sink's millimetres
 
-pub sink-deeper : (reach d e : ℕ) → 1 ≤ d → d < e → e < 256 → lt (sinkMillimetres reach d) (sinkMillimetres reach e) ≡ true
-sink-deeper reach d e lo h hi =
-    thousandth-rises (sinkMicrometres reach d) (sinkMicrometres reach e) (le-trans (lit≤ tt) (least-sink reach d lo)) (sink-rises reach d e h)
-    (le-trans (most-sink reach e hi) (lit≤ tt))
+module _ (table : List ℕ) (rule : Rule table) where
+  pub sink-deeper : (reach d e : ℕ) → 1 ≤ d → d < e → e < 256 → lt (sinkMillimetres table reach d) (sinkMillimetres table reach e) ≡ true
+  sink-deeper reach d e lo h hi =
+      thousandth-rises (sinkMicrometres table reach d) (sinkMicrometres table reach e) (least-sink table rule reach d lo (omega arith))
+      (sink-rises table rule reach d e h hi) (le-trans (largest-sink table rule reach e hi) (lit≤ tt))
 
-pub single-cell-deepest : (reach d : ℕ) → 1 ≤ d → d < 256 → T (le (sinkMillimetres reach d) (sinkMillimetres 0 d))
-single-cell-deepest reach d lo hi =
-    thousandth-keeps (sinkMicrometres reach d) (sinkMicrometres 0 d) (le-trans (lit≤ tt) (least-sink reach d lo)) (sink-most reach d)
-    (le-trans (most-sink 0 d hi) (lit≤ tt))
+  pub single-cell-deepest : (reach d : ℕ) → 1 ≤ d → d < 256 → T (le (sinkMillimetres table reach d) (sinkMillimetres table 0 d))
+  single-cell-deepest reach d lo hi =
+      thousandth-keeps (sinkMicrometres table reach d) (sinkMicrometres table 0 d) (least-sink table rule reach d lo hi)
+      (sink-most table reach d) (le-trans (largest-sink table rule 0 d hi) (lit≤ tt))

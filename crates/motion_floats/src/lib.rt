@@ -2,7 +2,7 @@
 use geometry::Plunge;
 ghost use mathlib.Core.Path.{_≡_};
 ghost use mathlib.Core.Bool.{cond};
-ghost use Rattle.motion_floats.specs.Floats.{within, scaleInRange, changeWidth, travelTo, motionsOf};
+ghost use Rattle.motion_floats.specs.Floats.{within, scaleInRange, changeWidth, travelTo, entryMotions};
 
 // Millimetres: half the pitch of the cells, and where column 0 and row 0 begin.
 pub struct Scale {
@@ -77,15 +77,15 @@ fn change_or_stay(scale: Scale, changed: bool, reach: u16) -> Motion
     }
 }
 
-// The motions of a plunge, with or without a change before it.
-pub fn motions_of(scale: Scale, changed: bool, q: Plunge) -> Motions
-    ensures { λ r. ⌜ r ≡ motionsOf scale changed q ⌝ }
+// The motions of a plunge, with or without a change before it, by the sink table's entry for its depth.
+pub fn motions_of(entry: u16, scale: Scale, changed: bool, q: Plunge) -> Motions
+    ensures { λ r. ⌜ r ≡ entryMotions entry scale changed q ⌝ }
 {
     let half = scale.half_pitch;
     let first = change_or_stay(scale, changed, q.reach.0);
     let x = travel_to(half, scale.column_offset, q.column);
     let y = travel_to(half, scale.row_offset, q.row);
-    let z = sink::sink_of(q.reach.0, q.depth);
+    let z = sink::sink_of(q.reach.0, entry);
     Motions {
         first,
         second: Motion::Travel(x, y),

@@ -62,18 +62,18 @@ lines-length m =
 
 -- ---- the lines of a plunge, by the answer that came
 
-module _ (f : List ℕ) (s : Scale) (i : ℕ) where
+module _ (table f : List ℕ) (s : Scale) (i : ℕ) where
   pub lines-asks : (m : Motions) (old : List ℕ) (at : ℕ) → at + linesRoom ≤ length old → at + length (motionLines m) ≤ length old
   lines-asks m old at h = omega (arith, lines-length m)
 
-  pub lines-put : (m : Motions) (old new : List ℕ) (at r : ℕ) → Moves m ≡ motionsIn f i s → Puts old at (motionLines m) new r
-      → Puts old at (linesAt f s i) new r × (r ≤ at + linesRoom)
+  pub lines-put : (a : MotionAnswer) (m : Motions) (old new : List ℕ) (at r : ℕ) → a ≡ motionsIn table f i s → a ≡ Moves m
+      → Puts old at (motionLines m) new r → Puts old at (linesAt table f s i) new r × (r ≤ at + linesRoom)
   unfolding linesAt
-  lines-put m old new at r e p =
-      (subst (λ (xs : List ℕ). Puts old at xs new r) (ap answerLines e) p, omega (arith, p .1, lines-length m))
+  lines-put a m old new at r e g p =
+      (subst (λ (xs : List ℕ). Puts old at xs new r) (ap answerLines (sym g ∙ e)) p, omega (arith, p .1, lines-length m))
 
-  pub lines-none : (old : List ℕ) (at : ℕ) (a : MotionAnswer) → a ≡ motionsIn f i s → answerLines a ≡ []
-      → Puts old at (linesAt f s i) old at × (at ≤ at + linesRoom)
+  pub lines-none : (old : List ℕ) (at : ℕ) (a : MotionAnswer) → a ≡ motionsIn table f i s → answerLines a ≡ []
+      → Puts old at (linesAt table f s i) old at × (at ≤ at + linesRoom)
   unfolding linesAt
   lines-none old at a e n =
       (subst (λ (xs : List ℕ). Puts old at xs old at) (sym n ∙ ap answerLines e) (sym (splice-nil old at), omega arith), omega arith)

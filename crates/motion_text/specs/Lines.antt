@@ -1,4 +1,4 @@
--- To be believed: press motions as text, a line for each, in ASCII; millimetres in decimal.
+-- To be believed: press motions by a sink table as text, a line for each, in ASCII; millimetres in decimal.
 use mathlib.Core.List.{List, [], _∷_, _++_}
 use Prim.Native.Nat.{ℕ}
 use lib.Ieee.{Float}
@@ -47,13 +47,13 @@ answerLines (Moves m) = motionLines m
 answerLines (NoMoves r) = []
 
 -- the lines of plunge number i of a file
-unfoldable pub linesAt : List ℕ → Scale → ℕ → List ℕ
-linesAt f s i = answerLines (motionsIn f i s)
+unfoldable pub linesAt : List ℕ → List ℕ → Scale → ℕ → List ℕ
+linesAt table f s i = answerLines (motionsIn table f i s)
 
 -- room for the lines of any plunge, in bytes
 abbrev pub linesRoom : ℕ
 linesRoom = 320
 
 -- the whole text: the lines of every plunge, in their order
-abbrev pub motionsText : List ℕ → Scale → List ℕ
-motionsText f s = gather (total f) 0 (linesAt f s)
+abbrev pub motionsText : List ℕ → List ℕ → Scale → List ℕ
+motionsText table f s = gather (total f) 0 (linesAt table f s)

@@ -74,23 +74,38 @@ fn put_three(page: &mut [u8], at: usize, motions: Motions) -> usize
     put_motion(page, b, third)
 }
 
-// The lines of plunge number i of a readable file.
-fn put_lines(page: &mut [u8], at: usize, file: &[u8], job: Job, i: usize, scale: Scale) -> usize
+// The lines of plunge number i of a readable file, by a sink table.
+fn put_lines(
+    page: &mut [u8],
+    at: usize,
+    table: &[u16; sink::ENTRIES],
+    file: &[u8],
+    job: Job,
+    i: usize,
+    scale: Scale,
+) -> usize
     requires { ⌜ JobOf (now file) job × (at + linesRoom ≤ length (now page)) ⌝ }
-    ensures { λ r. ⌜ Puts (now (page .entry)) at (linesAt (now (file .entry)) scale i) (now (page .exit)) r × (r ≤ at + linesRoom) ⌝ }
+    ensures { λ r. ⌜ Puts (now (page .entry)) at (linesAt (now (table .entry)) (now (file .entry)) scale i) (now (page .exit)) r × (r ≤ at + linesRoom) ⌝ }
 {
-    let answer = motion::motions_at(file, job, i, scale);
+    let answer = motion::motions_at(table, file, job, i, scale);
     match answer {
         MotionAnswer::Moves(motions) => put_three(page, at, motions),
         MotionAnswer::NoMoves(_) => at,
     }
 }
 
-// The lines of a readable file's plunges from one on, as many as the page has room for.
-pub fn put_page(page: &mut [u8], file: &[u8], job: Job, scale: Scale, from: usize) -> Page
+// The lines of a readable file's plunges from one on, by a sink table, as many as the page has room for.
+pub fn put_page(
+    page: &mut [u8],
+    table: &[u16; sink::ENTRIES],
+    file: &[u8],
+    job: Job,
+    scale: Scale,
+    from: usize,
+) -> Page
     requires { ⌜ JobOf (now file) job × (from ≤ total (now file)) ⌝ }
-    ensures { λ r. ⌜ PageOf (linesAt (now (file .entry)) scale) (total (now (file .entry))) linesRoom from (now (page .entry)) (now (page .exit)) r × Counts
-        (r .used) (now (page .exit)) ⌝ }
+    ensures { λ r. ⌜ PageOf (linesAt (now (table .entry)) (now (file .entry)) scale) (total (now (file .entry))) linesRoom from (now (page .entry))
+        (now (page .exit)) r × Counts (r .used) (now (page .exit)) ⌝ }
 {
     let plunges = job.plunges;
     let mut used = 0;
@@ -99,7 +114,7 @@ pub fn put_page(page: &mut [u8], file: &[u8], job: Job, scale: Scale, from: usiz
         if page.len() - used < LINES {
             return Page { used, next };
         }
-        used = put_lines(page, used, file, job, next, scale);
+        used = put_lines(page, used, table, file, job, next, scale);
         next += 1;
     }
     Page { used, next }

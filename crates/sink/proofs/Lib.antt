@@ -1,4 +1,5 @@
 pub mod Entries
+pub mod Rule
 pub mod Table
 pub mod Sinks
 pub mod Literals

@@ -1,13 +1,14 @@
--- The whole table, number by number: one computed test says that each entry is its formula's and below the next.
-use mathlib.Core.Path.{_≡_}
-use mathlib.Core.Bool.{Bool, true, cond}
+-- The built-in table, number by number: it is its formula's, and one computed test over all of it says that no entry breaks the rule of tables.
+use mathlib.Core.Path.{_≡_, refl, sym, ap, subst, _∙_}
+use mathlib.Core.Bool.{Bool, not}
 use mathlib.Core.List.{List, [], _∷_}
-use Prim.Native.Nat.{ℕ, suc, _<_}
-use native.Mathlib.Omega.{arith}
-use lib.Dec.{T, eqb, ltb, eqb→eq, ltb→lt}
+use Prim.Native.Nat.{ℕ, _<_}
+use lib.Dec.{eqb, eqb→eq}
 use lib.ListN.{getD}
-use Rattle.sink.specs.Sink.{micrometres}
-use Rattle.sink.proofs.Entries.{both, both-left, both-right, at}
+use Rattle.sink.specs.Sink.{micrometres, builtIn}
+use Rattle.sink.specs.Rule.{Rule, breaksRule}
+use Rattle.sink.proofs.Entries.{at}
+use Rattle.sink.proofs.Rule.{rule-of-test}
 
 -- the numbers of the code's array
 abbrev pub table : List ℕ
@@ -29,24 +30,20 @@ table =
     5264 ∷ 5291 ∷ 5318 ∷ 5345 ∷ 5372 ∷ 5399 ∷ 5426 ∷ 5453 ∷ 5481 ∷ 5508 ∷ 5535 ∷ 5562 ∷ 5590 ∷ 5617 ∷ 5645 ∷ 5672 ∷
     5700 ∷ 5727 ∷ 5755 ∷ 5782 ∷ 5810 ∷ 5837 ∷ 5865 ∷ 5893 ∷ 5921 ∷ 5948 ∷ 5976 ∷ 6004 ∷ 6032 ∷ 6060 ∷ 6088 ∷ 6116 ∷ []
 
--- an entry is its formula's number, and below the next entry where there is one
+-- "entry d being 20·d plus d·d/64 rounded down"
 abbrev right : ℕ → ℕ → Bool
-right d x = both (eqb x (micrometres d)) (cond (ltb d 255) (ltb x (getD table (suc d) 0)) true)
-
-whole-table : (d : ℕ) → d < 256 → T (right d (getD table d 0))
-whole-table = at right table tt
+right d x = eqb x (micrometres d)
 
 pub entry : (d : ℕ) → d < 256 → getD table d 0 ≡ micrometres d
-entry d h = eqb→eq (getD table d 0) (micrometres d)
-    (both-left (eqb (getD table d 0) (micrometres d)) (cond (ltb d 255) (ltb (getD table d 0) (getD table (suc d) 0)) true) (whole-table d h))
+entry d h = eqb→eq (getD table d 0) (micrometres d) (at right table tt d h)
 
--- "strictly rising"
-pub rises : (d : ℕ) → d < 255 → getD table d 0 < getD table (suc d) 0
-rises d h = ltb→lt (getD table d 0) (getD table (suc d) 0)
-    (go (ltb d 255) (borrow.Author.Tests.lt-ltb d 255 h)
-    (both-right (eqb (getD table d 0) (micrometres d)) (cond (ltb d 255) (ltb (getD table d 0) (getD table (suc d) 0)) true)
-    (whole-table d (omega arith))))
-  where
-    go : (b : Bool) → b ≡ true → T (cond b (ltb (getD table d 0) (getD table (suc d) 0)) true) → T (ltb (getD table d 0) (getD table (suc d) 0))
-    go true e t = t
-    go mathlib.Core.Bool.false e t = let z : _≡_ {A = ℕ} 0 1 = cc in absurd (omega arith)
+pub table-is : table ≡ builtIn
+unfolding builtIn
+table-is = refl
+
+pub built-in-entry : (d : ℕ) → d < 256 → getD builtIn d 0 ≡ micrometres d
+built-in-entry d h = ap (λ (t : List ℕ). getD t d 0) (sym table-is) ∙ entry d h
+
+-- "strictly rising", from 0, and none above the largest
+pub built-in-rule : Rule builtIn
+built-in-rule = subst Rule table-is (rule-of-test table (at (λ i x. not (breaksRule table i)) table tt))

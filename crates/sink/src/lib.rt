@@ -1,9 +1,18 @@
-// How deep the press sinks for a plunge, by its reach and depth.
+// Sink tables: how deep the press sinks for a plunge, by the table in force, its reach and depth.
 ghost use mathlib.Core.Path.{_≡_};
-ghost use Rattle.sink.specs.Sink.{micrometres, plungeSink, sinkMillimetres};
+ghost use Prim.Native.Nat.{_<_};
+ghost use lib.ListN.{getD};
+ghost use Rattle.sink.specs.Sink.{tableEntries, builtIn, plungeSink, plungeMillimetres};
+ghost use Rattle.sink.specs.Rule.{breaksRule};
 
-// Whole micrometres for each depth: 20 a step, and the square's 64th, rounded down.
-pub const SINK: [u16; 256] = [
+// A table has an entry for each depth.
+pub const ENTRIES: usize = 256;
+
+// No entry of a shop's table exceeds this.
+pub const LARGEST_ENTRY: u16 = 50000;
+
+// The built-in table, whole micrometres for each depth: 20 a step, and the square's 64th, rounded down.
+pub const SINK: [u16; ENTRIES] = [
     0,
     20,
     40,
@@ -262,12 +271,21 @@ pub const SINK: [u16; 256] = [
     6116,
 ];
 
-// The table's entry.
+// The table that a press starts with.
+pub fn built_in() -> [u16; ENTRIES]
+    ensures { λ r. ⌜ r ≡ builtIn ⌝ }
+{
+    SINK
+}
+
+// Its entry for a depth: for a caller that needs no table of its own, since one that is lent is first put on the stack.
 pub fn sink_at(depth: u8) -> u16
-    ensures { λ r. ⌜ r ≡ micrometres depth ⌝ }
+    ensures { λ r. ⌜ r ≡ getD builtIn depth 0 ⌝ }
 {
     SINK[depth as usize]
 }
+
+// ---- the sink of a plunge
 
 // Whole micrometres of a plunge with this table entry, whatever the table: electrodes of a single cell wear faster and sink a tenth more, rounded down.
 pub fn plunge_sink(reach: u16, entry: u16) -> u32
@@ -278,9 +296,26 @@ pub fn plunge_sink(reach: u16, entry: u16) -> u32
     micrometres + tenth
 }
 
-// A plunge's sink in millimetres, rounded once.
-pub fn sink_of(reach: u16, depth: u8) -> f64
-    ensures { λ r. ⌜ r ≡ sinkMillimetres reach depth ⌝ }
+// The same in millimetres, rounded once.
+pub fn sink_of(reach: u16, entry: u16) -> f64
+    ensures { λ r. ⌜ r ≡ plungeMillimetres reach entry ⌝ }
 {
-    (plunge_sink(reach, sink_at(depth)) as f64) / 1000.0
+    (plunge_sink(reach, entry) as f64) / 1000.0
+}
+
+// ---- the rule of a shop's table
+
+// Whether entry number i breaks the rule: entry 0 is 0, each is larger than the one before, none exceeds the largest.
+pub fn breaks_rule(table: &[u16; ENTRIES], i: usize) -> bool
+    requires { ⌜ i < tableEntries ⌝ }
+    ensures { λ r. ⌜ r ≡ breaksRule (now (table .entry)) i ⌝ }
+{
+    let entry = table[i];
+    if LARGEST_ENTRY < entry {
+        return true;
+    }
+    if i == 0 {
+        return entry != 0;
+    }
+    entry <= table[i - 1]
 }

@@ -1,9 +1,9 @@
--- What the tests on floats tell: that bits are a NaN's or not, and that a number which equals itself is none.
+-- What the tests on bits tell: that they are a NaN's or not.
 use mathlib.Core.Path.{_≡_, refl, sym, subst}
-use mathlib.Core.Bool.{Bool, true, false, not, _&&_}
+use mathlib.Core.Bool.{Bool, false, not, _&&_}
 use Prim.Native.Nat.{ℕ, _%_, _/_}
 use lib.Dec.{T, eqb}
-use lib.Ieee.{Float, nan, inf, fin, binary64, nanBits, isNan, eq}
+use lib.Ieee.{binary64, nanBits}
 use borrow.Author.Tests.{eq-eqb, ne-eqb}
 
 -- With all ones in the exponent's field, bits are a NaN's where some digit below is not 0.
@@ -18,10 +18,3 @@ bits-number b e = subst (λ t. false ≡ t && not (eqb (b % 4503599627370496) 0)
 
 pub not-nan-bits : (b : ℕ) → (r : Bool) → r ≡ nanBits binary64 b → r ≡ false → T (not (nanBits binary64 b))
 not-nan-bits b r e f = subst (λ t. T (not t)) e (subst (λ t. T (not t)) (sym f) tt)
-
--- A NaN does not equal itself.
-pub equals-itself : (x : Float) → eq x x ≡ true → T (not (isNan x))
-unfolding eq isNan
-equals-itself nan e = subst T (sym e) tt
-equals-itself (inf s) e = tt
-equals-itself (fin s m d) e = tt

@@ -1,11 +1,7 @@
 // Runs the motion call on files, plunge numbers and scales that its input describes, and prints what comes back, floats to the last bit.
 use libc::STDIN_FILENO;
-use motion::MotionAnswer;
-use motion_floats::Motion;
-use motion_floats::Motions;
 use motion_floats::Scale;
 use scan::byte_in;
-use test_io::print_text;
 use test_io::two_words;
 use test_io::word;
 use test_records::between;
@@ -67,55 +63,10 @@ fn taken(s: &[u8]) -> usize {
     FIXED + size_of(word(byte_in(s, 0), byte_in(s, 1)))
 }
 
-// ---- printing
-
-fn print_float(x: f64) {
-    if x == x {
-        test_io::print_bits(f64::to_bits(x));
-    } else {
-        print_text(b" nan");
-    }
-}
-
-fn print_motion(motion: Motion) {
-    match motion {
-        Motion::Change(width) => {
-            print_text(b"change");
-            print_float(width);
-        }
-        Motion::Stay => print_text(b"stay"),
-        Motion::Travel(column, row) => {
-            print_text(b"travel");
-            print_float(column);
-            print_float(row);
-        }
-        Motion::Sink(depth) => {
-            print_text(b"sink");
-            print_float(depth);
-        }
-    }
-}
-
-fn print_motions(motions: Motions) {
-    let first = motions.first;
-    let second = motions.second;
-    let third = motions.third;
-    print_motion(first);
-    print_text(b" ");
-    print_motion(second);
-    print_text(b" ");
-    print_motion(third);
-    print_text(b"\n");
-}
-
 // ---- records
 
 fn run_call(file: &[u8], i: usize, scale: Scale) {
-    let answer = motion::plunge_motions(file, i, scale);
-    match answer {
-        MotionAnswer::Moves(motions) => print_motions(motions),
-        MotionAnswer::NoMoves(refusal) => test_io::print_refusal(refusal),
-    }
+    test_motion_io::print_answer(motion::built_in_motions(file, i, scale));
 }
 
 // Runs the record at the start of some bytes and gives the bytes it takes; 0 if it is not whole.

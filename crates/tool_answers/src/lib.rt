@@ -77,9 +77,9 @@ fn show(file: &[u8]) -> Outcome {
     }
 }
 
-// The refusals of plunge 0's motions, but that an empty list has none.
+// The refusals of plunge 0's motions, whatever the sink table, but that an empty list has none.
 fn motions(file: &[u8], scale: Scale) -> Outcome {
-    let answer = motion::plunge_motions(file, 0, scale);
+    let answer = motion::built_in_motions(file, 0, scale);
     match answer {
         MotionAnswer::Moves(_) => Outcome::Done(0),
         MotionAnswer::NoMoves(refusal) => {
@@ -88,6 +88,16 @@ fn motions(file: &[u8], scale: Scale) -> Outcome {
             }
             Outcome::Refused(refusal)
         }
+    }
+}
+
+// A sink table as text.
+fn show_table(field: &[u8], out: &mut [u8]) -> Outcome {
+    let mut table = sink::built_in();
+    let verdict = table_field::load(field, &mut table);
+    match verdict {
+        Verdict::Refused(refusal) => Outcome::Refused(refusal),
+        Verdict::Accepted => Outcome::Done(table_text::append_table(out, 0, &table)),
     }
 }
 
@@ -194,6 +204,7 @@ pub fn outcome_of(
         Command::Tidy => of_list(jobs::tidy(input, out, a, b, c)),
         Command::Check => of_verdict(job_check::check(input, a, b, c), 0),
         Command::Motions => motions(input, scale),
+        Command::Table => show_table(input, out),
         Command::Show => show(input),
         Command::Info => info(input, out, a, b, c),
         Command::Same => Outcome::Done(0),

@@ -14,6 +14,7 @@ pub enum Command {
     Info,
     Same,
     Motions,
+    Table,
     Scan,
     Picture,
     Help,
@@ -26,16 +27,18 @@ enum Word {
     Output,
     Kind,
     Rungs,
+    Table,
     Unknown,
     Plain,
 }
 
-// The numbers of the words that name the output and the kind and that ask for the rungs climbed, 0 where there is none; and whether an
-// option is wrong.
+// The numbers of the words that name the output, the kind and the sink table and that ask for the rungs climbed, 0 where there is none; and
+// whether an option is wrong.
 pub struct Options {
     pub output: usize,
     pub kind: usize,
     pub rungs: usize,
+    pub table: usize,
     pub wrong: bool,
 }
 
@@ -75,6 +78,9 @@ fn telling_command(word: &[u8]) -> Command {
     }
     if check::same(word, b"motions") {
         return Command::Motions;
+    }
+    if check::same(word, b"table") {
+        return Command::Table;
     }
     file_command(word)
 }
@@ -143,6 +149,9 @@ fn word_of(text: &[u8]) -> Word {
     if check::same(text, b"--rungs") {
         return Word::Rungs;
     }
+    if check::same(text, b"--table") {
+        return Word::Table;
+    }
     if looks_like_option(text) {
         return Word::Unknown;
     }
@@ -174,6 +183,7 @@ fn next(word: Word, number: usize, count: usize) -> usize
     match word {
         Word::Output => behind_value(number, count),
         Word::Kind => behind_value(number, count),
+        Word::Table => behind_value(number, count),
         Word::Rungs => number + 1,
         Word::Unknown => number + 1,
         Word::Plain => number + 1,
@@ -190,74 +200,67 @@ fn behind_value(number: usize, count: usize) -> usize
     number + 2
 }
 
+// The number of the value of the option with a number; 0 where it is missing.
+fn value_of(number: usize, count: usize) -> usize
+    requires { ⌜ number < count ⌝ }
+{
+    if count - number < 2 { 0 } else { number + 1 }
+}
+
 // A value that is missing, or an option that stands twice, is wrong.
-fn with_output(options: Options, number: usize, count: usize) -> Options
-    requires { ⌜ number < count ⌝ }
-{
-    if count - number < 2 {
-        return Options {
-            output: 0,
-            kind: options.kind,
-            rungs: options.rungs,
-            wrong: true,
-        };
+fn is_wrong(options: Options, before: usize, value: usize) -> bool {
+    if value == 0 {
+        return true;
     }
-    Options {
-        output: number + 1,
-        kind: options.kind,
-        rungs: options.rungs,
-        wrong: twice(options.output, options.wrong),
-    }
-}
-
-fn with_kind(options: Options, number: usize, count: usize) -> Options
-    requires { ⌜ number < count ⌝ }
-{
-    if count - number < 2 {
-        return Options {
-            output: options.output,
-            kind: 0,
-            rungs: options.rungs,
-            wrong: true,
-        };
-    }
-    Options {
-        output: options.output,
-        kind: number + 1,
-        rungs: options.rungs,
-        wrong: twice(options.kind, options.wrong),
-    }
-}
-
-fn with_rungs(options: Options, number: usize) -> Options {
-    Options {
-        output: options.output,
-        kind: options.kind,
-        rungs: number,
-        wrong: twice(options.rungs, options.wrong),
-    }
-}
-
-fn twice(before: usize, wrong: bool) -> bool {
     if before != 0 {
         return true;
     }
-    wrong
+    options.wrong
+}
+
+fn with_output(options: Options, value: usize) -> Options {
+    let mut next = options;
+    next.output = value;
+    next.wrong = is_wrong(options, options.output, value);
+    next
+}
+
+fn with_kind(options: Options, value: usize) -> Options {
+    let mut next = options;
+    next.kind = value;
+    next.wrong = is_wrong(options, options.kind, value);
+    next
+}
+
+fn with_table(options: Options, value: usize) -> Options {
+    let mut next = options;
+    next.table = value;
+    next.wrong = is_wrong(options, options.table, value);
+    next
+}
+
+fn with_rungs(options: Options, number: usize) -> Options {
+    let mut next = options;
+    next.rungs = number;
+    next.wrong = is_wrong(options, options.rungs, number);
+    next
+}
+
+fn with_unknown(options: Options) -> Options {
+    let mut next = options;
+    next.wrong = true;
+    next
 }
 
 fn with_word(options: Options, word: Word, number: usize, count: usize) -> Options
     requires { ⌜ number < count ⌝ }
 {
     match word {
-        Word::Output => with_output(options, number, count),
-        Word::Kind => with_kind(options, number, count),
+        Word::Output => with_output(options, value_of(number, count)),
+        Word::Kind => with_kind(options, value_of(number, count)),
+        Word::Table => with_table(options, value_of(number, count)),
         Word::Rungs => with_rungs(options, number),
-        Word::Unknown => Options {
-            output: options.output,
-            kind: options.kind,
-            rungs: options.rungs,
-            wrong: true,
-        },
+        Word::Unknown => with_unknown(options),
         Word::Plain => options,
     }
 }
@@ -269,6 +272,7 @@ pub fn given_options() -> Options {
         output: 0,
         kind: 0,
         rungs: 0,
+        table: 0,
         wrong: false,
     };
     let mut i = 2;
@@ -287,6 +291,7 @@ fn is_plain(word: Word) -> bool {
         Word::Plain => true,
         Word::Output => false,
         Word::Kind => false,
+        Word::Table => false,
         Word::Rungs => false,
         Word::Unknown => false,
     }
@@ -312,25 +317,31 @@ pub fn plain_word(which: usize) -> usize {
 
 // ---- what a command takes
 
-// Which plain word is the first input: a scale stands before it.
+// Whether a command gives motions, and so has a scale before its input.
+pub fn is_motions(command: Command) -> bool {
+    match command {
+        Command::Motions => true,
+        Command::List => false,
+        Command::Draw => false,
+        Command::Tidy => false,
+        Command::Check => false,
+        Command::Show => false,
+        Command::Info => false,
+        Command::Same => false,
+        Command::Table => false,
+        Command::Scan => false,
+        Command::Picture => false,
+        Command::Help => false,
+        Command::Version => false,
+        Command::Unknown => false,
+    }
+}
+
+// Which plain word is the first input.
 pub fn first_input(command: Command) -> usize
     ensures { λ r. ⌜ r ≤ 3 ⌝ }
 {
-    match command {
-        Command::Motions => 3,
-        Command::List => 0,
-        Command::Draw => 0,
-        Command::Tidy => 0,
-        Command::Check => 0,
-        Command::Show => 0,
-        Command::Info => 0,
-        Command::Same => 0,
-        Command::Scan => 0,
-        Command::Picture => 0,
-        Command::Help => 0,
-        Command::Version => 0,
-        Command::Unknown => 0,
-    }
+    if is_motions(command) { 3 } else { 0 }
 }
 
 // Whether there are as many plain words as a command takes.
@@ -354,6 +365,7 @@ fn fits_plain(command: Command) -> bool {
         Command::Tidy => plain_word(1) == 0,
         Command::Scan => plain_word(1) == 0,
         Command::Picture => plain_word(1) == 0,
+        Command::Table => plain_word(1) == 0,
         Command::Help => true,
         Command::Version => true,
         Command::Unknown => true,
@@ -372,6 +384,7 @@ fn makes_scan(command: Command) -> bool {
         Command::Info => false,
         Command::Same => false,
         Command::Motions => false,
+        Command::Table => false,
         Command::Picture => false,
         Command::Help => false,
         Command::Version => false,
@@ -391,11 +404,26 @@ fn makes_list(command: Command) -> bool {
         Command::Info => false,
         Command::Same => false,
         Command::Motions => false,
+        Command::Table => false,
         Command::Picture => false,
         Command::Help => false,
         Command::Version => false,
         Command::Unknown => false,
     }
+}
+
+// Whether a sink table stands where it means something, and is not read from where the job is.
+fn fits_table(command: Command, options: Options) -> bool {
+    if options.table == 0 {
+        return true;
+    }
+    if !is_motions(command) {
+        return false;
+    }
+    if tool_io::names::is_name(options.table) {
+        return true;
+    }
+    tool_io::names::is_name(plain_word(first_input(command)))
 }
 
 // Whether each option stands where it means something.
@@ -408,10 +436,12 @@ fn fits_options(command: Command, options: Options) -> bool {
             return false;
         }
     }
-    if options.rungs == 0 {
-        return true;
+    if options.rungs != 0 {
+        if !makes_list(command) {
+            return false;
+        }
     }
-    makes_list(command)
+    fits_table(command, options)
 }
 
 // Without a name the input is standard input, but nobody is kept waiting at a terminal.
@@ -446,6 +476,7 @@ pub fn is_same(command: Command) -> bool {
         Command::Show => false,
         Command::Info => false,
         Command::Motions => false,
+        Command::Table => false,
         Command::Scan => false,
         Command::Picture => false,
         Command::Help => false,

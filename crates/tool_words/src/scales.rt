@@ -71,20 +71,10 @@ fn is_number() -> bool {
 
 // Whether a command that no input is named for has its whole scale.
 pub fn is_complete(command: Command) -> bool {
-    match command {
-        Command::Motions => is_number(),
-        Command::List => true,
-        Command::Draw => true,
-        Command::Tidy => true,
-        Command::Check => true,
-        Command::Show => true,
-        Command::Info => true,
-        Command::Same => true,
-        Command::Scan => true,
-        Command::Picture => true,
-        Command::Help => true,
-        Command::Version => true,
-        Command::Unknown => true,
+    if crate::is_motions(command) {
+        is_number()
+    } else {
+        true
     }
 }
 
@@ -113,19 +103,9 @@ pub fn given_scale() -> Given {
 
 // The scale that a command is given; a command that takes none has one of zeros.
 pub fn scale_of(command: Command) -> Given {
-    match command {
-        Command::Motions => given_scale(),
-        Command::List => none(),
-        Command::Draw => none(),
-        Command::Tidy => none(),
-        Command::Check => none(),
-        Command::Show => none(),
-        Command::Info => none(),
-        Command::Same => none(),
-        Command::Scan => none(),
-        Command::Picture => none(),
-        Command::Help => none(),
-        Command::Version => none(),
-        Command::Unknown => none(),
+    if crate::is_motions(command) {
+        given_scale()
+    } else {
+        none()
     }
 }

@@ -1,61 +1,82 @@
--- `motions_at` tries the scale, then the number, then gives the motions.
-use mathlib.Core.Path.{sym, ap₂, _∙_}
-use native.Mathlib.Omega.{arith}
-use Rattle.motion_floats.specs.Floats.{motionsOf}
-use Rattle.motion.proofs.Calls.{not-true, not-false, scale-refused, number-refused, moves}
+-- `motions_at` takes the entry of the plunge's depth from the table that is lent.
+use Rattle.motion.proofs.Calls.{asked-below, not-moved, moves}
+use mathlib.Core.Path.{refl}
 use borrow.Author.Needs.{needs}
 use Rattle.motion.proofs.motions_at.Statement.{statement}
 use Rattle.motion.proofs.motions_at.Tie as tie
 
-in-range-requires : tie.Need-in-range-requires
-in-range-requires c κs = search needs
+check-asked-requires : tie.Need-check-asked-requires
+check-asked-requires c κs = search needs
 
-returns : tie.Need-returns
-returns c =
-    let at-start = c .before .before .before in
-    let given = at-start .args in
-    scale-refused (given .file .now) (given .i) (given .scale) (at-start .pre .readable)
-    (sym (c .before .in-range .ensures) ∙ not-true _ (c .if1 .taken))
+enum-known-asked : tie.Need-enum-known-asked
+enum-known-asked c = search needs
 
-returns-2 : tie.Need-returns-2
-returns-2 c =
-    let at-in-range = c .before .before .before in
-    let at-start = at-in-range .before .before in
-    let given = at-start .args in
-    number-refused (given .file .now) (given .i) (given .scale) (at-start .pre .readable)
-    (sym (at-in-range .in-range .ensures) ∙ not-false _ (c .before .before .if1 .left))
-    (omega (arith, at-start .pre .plunges, c .if2 .taken))
+enum-told : tie.Need-enum-told
+enum-told c = search needs
 
 is-changed-requires : tie.Need-is-changed-requires
-is-changed-requires c κs = search needs
+is-changed-requires c κs =
+    let at-start = c .before .before .before .before in
+    let given = at-start .args in (
+      at-start .pre,
+      asked-below (given .file .now) (given .i) (given .scale) (given .job) (at-start .pre) _
+          (c .before .before .check-asked .ensures) (c .enum-told .given .1),
+    )
 
 nth-plunge-requires : tie.Need-nth-plunge-requires
-nth-plunge-requires c κs = search needs
+nth-plunge-requires c κs =
+    let at-check-asked = c .before .before .before in
+    let at-start = at-check-asked .before .before in
+    let given = at-start .args in (
+      at-start .pre,
+      asked-below (given .file .now) (given .i) (given .scale) (given .job) (at-start .pre) _
+          (at-check-asked .check-asked .ensures) (c .before .enum-told .given .1),
+    )
+
+cast-depth : tie.Need-cast-depth
+cast-depth c = search needs
+
+mul-entry : tie.Need-mul-entry
+mul-entry c = search needs
+
+element-copy-out-entry : tie.Need-element-copy-out-entry
+element-copy-out-entry c = search needs
 
 motions-of-requires : tie.Need-motions-of-requires
 motions-of-requires c κs = search needs
 
-returns-3 : tie.Need-returns-3
-returns-3 c =
-    let at-if2 = c .before .before .before in
-    let at-if1 = at-if2 .before .before in
-    let at-in-range = at-if1 .before in
-    let at-start = at-in-range .before .before in
+returns : tie.Need-returns
+returns c =
+    let at-check-asked = c .before .before .before in
+    let at-start = at-check-asked .before .before in
     let given = at-start .args in
-    moves (given .file .now) (given .i) (given .scale) (at-start .pre .readable)
-    (sym (at-in-range .in-range .ensures) ∙ not-false _ (at-if1 .if1 .left))
-    (omega (arith, at-start .pre .plunges, at-if2 .if2 .left)) _
-    (c .motions-of .ensures ∙ ap₂ (motionsOf (given .scale)) (c .before .before .is-changed .ensures)
-    (c .before .nth-plunge .ensures))
+    not-moved (given .table .now) (given .file .now) (given .i) (given .scale) (given .job) (at-start .pre) _
+    (at-check-asked .check-asked .ensures) _ (c .before .asked .given .1)
+
+returns-2 : tie.Need-returns-2
+returns-2 c =
+    let at-nth-plunge = c .before .before .before in
+    let at-is-changed = at-nth-plunge .before in
+    let at-enum-told = at-is-changed .before in
+    let at-check-asked = at-enum-told .before .before in
+    let at-start = at-check-asked .before .before in
+    let given = at-start .args in
+    moves (given .table .now) (given .file .now) (given .i) (given .scale) (given .job) (at-start .pre) _
+    (at-check-asked .check-asked .ensures) (at-enum-told .enum-told .given .1) _ _ _ _
+    (at-is-changed .is-changed .ensures) (at-nth-plunge .nth-plunge .ensures) refl (c .motions-of .ensures)
 
 pub motions-at-spec : {M : Type 1} → statement M
 motions-at-spec =
     tie.close
     (tie.spec
-    in-range-requires
-    returns
-    returns-2
+    check-asked-requires
+    enum-known-asked
+    enum-told
     is-changed-requires
     nth-plunge-requires
+    cast-depth
+    mul-entry
+    element-copy-out-entry
     motions-of-requires
-    returns-3)
+    returns
+    returns-2)

@@ -1,7 +1,6 @@
 -- `plunge_motions` reads the file first.
 use mathlib.Core.Path.{sym, _∙_}
-use Rattle.reading.proofs.Answers.{read-refused, read-accepted}
-use Rattle.motion.proofs.Calls.{file-refused}
+use Rattle.reading.proofs.Answers.{file-fault, read-refused, read-accepted}
 use borrow.Author.Needs.{needs}
 use Rattle.motion.proofs.plunge_motions.Statement.{statement}
 use Rattle.motion.proofs.plunge_motions.Tie as tie
@@ -23,7 +22,7 @@ motions-at-requires c κs =
 returns : tie.Need-returns
 returns c =
     let at-read = c .before .before .before in
-    file-refused _ _ _ _ (read-refused _ _ _ (sym (c .before .answer .given .1) ∙ at-read .read .ensures))
+    rw (file-fault _ _ _ (read-refused _ _ _ (sym (c .before .answer .given .1) ∙ at-read .read .ensures)))
 
 returns-2 : tie.Need-returns-2
 returns-2 c = search needs

@@ -9,10 +9,10 @@ use Rattle.phrases.proofs.Puts.{counts}
 use Rattle.text.proofs.Pages.{Filled, filled-none, filled-more, filled-page}
 
 abbrev Inv-loop : tie.InvT-loop
-Inv-loop page₀ file job scale from plunges used₀ next₀ page used next = Filled (linesAt file scale) (total file) from page₀ page used next
+Inv-loop page₀ table file job scale from plunges used₀ next₀ page used next = Filled (linesAt table file scale) (total file) from page₀ page used next
 
 abbrev μ-loop : tie.MeasureT-loop
-μ-loop page₀ file job scale from plunges used₀ next₀ page used next = total file - next
+μ-loop page₀ table file job scale from plunges used₀ next₀ page used next = total file - next
 
 loop-holds : tie.Need-loop-holds Inv-loop μ-loop
 loop-holds c =
@@ -20,7 +20,7 @@ loop-holds c =
     let given = at-start .args in
     let f = given .file .now in
     let w = at-start .pre .0 in
-    filled-none (linesAt f (given .scale)) (total f) (given .from) (given .page .now) (at-start .pre .1)
+    filled-none (linesAt (given .table .now) f (given .scale)) (total f) (given .from) (given .page .now) (at-start .pre .1)
 
 sub-if1 : tie.Need-sub-if1 Inv-loop μ-loop
 sub-if1 c =
@@ -37,8 +37,9 @@ returns c =
     let f = given .file .now in
     let w = at-start .pre .0 in
     let at-loop = c .before .before in (
-      filled-page (linesAt f (given .scale)) (total f) (given .from) (given .page .now) linesRoom (at-loop .loop .page) (at-loop .loop .used) (at-loop .loop .next)
-          (at-loop .loop .inv) (λ h. omega (arith, c .if1 .taken, at-loop .loop .inv .same, at-loop .loop .inv .fits)),
+      filled-page (linesAt (given .table .now) f (given .scale)) (total f) (given .from) (given .page .now) linesRoom (at-loop .loop .page)
+          (at-loop .loop .used) (at-loop .loop .next) (at-loop .loop .inv)
+          (λ h. omega (arith, c .if1 .taken, at-loop .loop .inv .same, at-loop .loop .inv .fits)),
       counts (at-loop .loop .used) (at-loop .loop .page) (omega (arith, at-loop .loop .inv .same, at-loop .loop .inv .fits)),
     )
 
@@ -73,7 +74,7 @@ loop-again c =
     let w = at-start .pre .0 in
     let at-loop = at-loop-test .before in
     let put = c .before .before .«put-lines» in
-    filled-more (linesAt f (given .scale)) (total f) (given .from) (given .page .now) (at-loop .loop .page)
+    filled-more (linesAt (given .table .now) f (given .scale)) (total f) (given .from) (given .page .now) (at-loop .loop .page)
     (put .last .0) (at-loop .loop .used) (at-loop .loop .next) (put .result) (at-loop .loop .inv)
     (omega (arith, w .plunges, at-loop-test .loop-test .taken)) (put .ensures .0)
     (omega
@@ -90,8 +91,9 @@ returns-2 c =
     let f = given .file .now in
     let w = at-start .pre .0 in
     let at-loop = c .before in (
-      filled-page (linesAt f (given .scale)) (total f) (given .from) (given .page .now) linesRoom (at-loop .loop .page) (at-loop .loop .used) (at-loop .loop .next)
-          (at-loop .loop .inv) (λ h. absurd (omega (arith, c .loop-test .left, w .plunges, h))),
+      filled-page (linesAt (given .table .now) f (given .scale)) (total f) (given .from) (given .page .now) linesRoom (at-loop .loop .page)
+          (at-loop .loop .used) (at-loop .loop .next) (at-loop .loop .inv)
+          (λ h. absurd (omega (arith, c .loop-test .left, w .plunges, h))),
       counts (at-loop .loop .used) (at-loop .loop .page) (omega (arith, at-loop .loop .inv .same, at-loop .loop .inv .fits)),
     )
 

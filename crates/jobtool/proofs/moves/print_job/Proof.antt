@@ -11,10 +11,10 @@ use Rattle.motion_text.specs.Lines.{linesAt, linesRoom}
 use Rattle.text.proofs.Pages.{page-goes-on}
 
 abbrev Inv-loop : tie.InvT-loop
-Inv-loop fd file job scale plunges page₀ next₀ page next = (next ≤ total file) × (65536 ≡ length page)
+Inv-loop fd table file job scale plunges page₀ next₀ page next = (next ≤ total file) × (65536 ≡ length page)
 
 abbrev μ-loop : tie.MeasureT-loop
-μ-loop fd file job scale plunges page₀ next₀ page next = total file - next
+μ-loop fd table file job scale plunges page₀ next₀ page next = total file - next
 
 large-buffer-requires : tie.Need-large-buffer-requires Inv-loop μ-loop
 large-buffer-requires c κs = search needs
@@ -51,7 +51,7 @@ loop-less c =
     let put = at-put-page .«put-page» in
     let f = at-start .args .file .now in
     let on =
-    page-goes-on (linesAt f (at-start .args .scale)) (total f) linesRoom (at-loop .loop .next) (at-loop .loop .page)
+    page-goes-on (linesAt (at-start .args .table .now) f (at-start .args .scale)) (total f) linesRoom (at-loop .loop .next) (at-loop .loop .page)
     (put .last .0) (put .result) (put .ensures .0)
     (omega (arith, at-start .pre .plunges, at-loop-test .loop-test .taken)) (omega (arith, at-loop .loop .inv .1)) in
     omega (arith, on, put .ensures .0 .within)

@@ -1,8 +1,8 @@
 -- The test before tells that the number is no NaN.
-use Rattle.test_motions.proofs.Floats.{equals-itself}
+use Rattle.test_motion_io.proofs.Floats.{equals-itself}
 use borrow.Author.Needs.{needs}
-use Rattle.test_motions.proofs.print_float.Statement.{statement}
-use Rattle.test_motions.proofs.print_float.Tie as tie
+use Rattle.test_motion_io.proofs.print_float.Statement.{statement}
+use Rattle.test_motion_io.proofs.print_float.Tie as tie
 
 float-to-bits-print-bits : tie.Need-float-to-bits-print-bits
 float-to-bits-print-bits c = equals-itself (c .before .args .x) (c .if1 .taken)

@@ -1,0 +1,2 @@
+-- The law that the proofs of test_motion_io cite.
+pub mod Floats
