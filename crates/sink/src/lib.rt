@@ -278,7 +278,7 @@ pub fn built_in() -> [u16; ENTRIES]
     SINK
 }
 
-// Its entry for a depth: for a caller that needs no table of its own, since one that is lent is first put on the stack.
+// Its entry for a depth, for a caller that has no table to lend.
 pub fn sink_at(depth: u8) -> u16
     ensures { λ r. ⌜ r ≡ getD builtIn depth 0 ⌝ }
 {
