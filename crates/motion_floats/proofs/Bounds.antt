@@ -24,7 +24,7 @@ use Rattle.motion_floats.specs.declared.Motion.{Motion}
 use Rattle.motion_floats.specs.declared.Motion.the-variants.{Change, Stay, Travel, Sink}
 use Rattle.motion_floats.specs.Floats.{within, sixteenth, scaleInRange, changeWidth, travelTo, motionsOf}
 
--- from 2^-10 to below 2^20: the range of crates/decimal, `inDecimalRange`
+-- from 2^-10 to below 2^20: the range of `decimal_text/Text: inDecimalRange`
 abbrev pub printable : Float → Bool
 printable x = cond (le (fin false 1 (negsuc 9)) x) (lt x (fin false 1 (pos 20))) false
 

@@ -31,11 +31,11 @@ surplus n = firstMet (trial (ltb tableBytes n) 11 tableBytes ∷ [])
 -- ---- a field
 
 module _ (f : List ℕ) where
-  abbrev opening : List Trial
-  opening = openTrials f 0 (opens tableTag tableSize f 0) tableSize
+  abbrev openingTrials : List Trial
+  openingTrials = openTrials f 0 (opens tableTag tableSize f 0) tableSize
 
-  split : firstMet (fieldTrials f) ≡ andThen (firstMet opening) (surplus (length f))
-  split = first-append opening (trial (ltb tableBytes (length f)) 11 tableBytes ∷ [])
+  split : firstMet (fieldTrials f) ≡ andThen (firstMet openingTrials) (surplus (length f))
+  split = first-append openingTrials (trial (ltb tableBytes (length f)) 11 tableBytes ∷ [])
 
   module _ (v : Verdict) (e : v ≡ firstMet (openTrials f 0 (opensEither tableOpening tableOpening f 0) (sizeEither tableOpening tableOpening f 0))) where
     after : (u : Verdict) → v ≡ u → andThen u (surplus (length f)) ≡ firstMet (fieldTrials f)
@@ -57,7 +57,7 @@ module _ (f : List ℕ) where
 
   pub whole : firstMet (fieldTrials f) ≡ Accepted → Whole
   whole e =
-      let b = both-accepted (firstMet opening) (surplus (length f)) (sym split ∙ e) in
+      let b = both-accepted (firstMet openingTrials) (surplus (length f)) (sym split ∙ e) in
       let o = opened f 0 (opens tableTag tableSize f 0) tableSize (b .0) in
       let s = cond-accepted (ltb tableBytes (length f)) _ Accepted (b .1) in
       record { room = omega (arith, o .0, ltb-false tableBytes (length f) (s .0)); begins = o .1 }
@@ -91,11 +91,11 @@ module _ (f : List ℕ) where
 -- ---- a table that is written
 
 module _ (table out : List ℕ) where
-  abbrev room : List Trial
-  room = trial (ltb (length out) tableBytes) 5 tableBytes ∷ []
+  abbrev roomTrials : List Trial
+  roomTrials = trial (ltb (length out) tableBytes) 5 tableBytes ∷ []
 
-  judges : (v : Verdict) → v ≡ firstMet (ruleTrials table) → writeVerdict table out ≡ andThen v (firstMet room)
-  judges v e = first-append (ruleTrials table) room ∙ ap (λ (u : Verdict). andThen u (firstMet room)) (sym e)
+  judges : (v : Verdict) → v ≡ firstMet (ruleTrials table) → writeVerdict table out ≡ andThen v (firstMet roomTrials)
+  judges v e = first-append (ruleTrials table) roomTrials ∙ ap (λ (u : Verdict). andThen u (firstMet roomTrials)) (sym e)
 
   pub write-broken : (r : Refusal) → Refused r ≡ firstMet (ruleTrials table)
       → Answered (writeVerdict table out) (tableField table) out out (Refused r)

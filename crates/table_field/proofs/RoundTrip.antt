@@ -98,8 +98,8 @@ round-trip table out now old back r e w l =
 -- ---- a field that is loaded is the field of its table: no two fields load the same
 
 module _ (f : List ℕ) (bytes : (i : ℕ) → getD f i 0 < 256) (ok : loadVerdict f ≡ Accepted) where
-  fields : Whole f
-  fields = whole f (both-accepted (firstMet (fieldTrials f)) _ (sym (first-append (fieldTrials f) (ruleTrials (entriesIn f))) ∙ ok) .0)
+  is-whole : Whole f
+  is-whole = whole f (both-accepted (firstMet (fieldTrials f)) _ (sym (first-append (fieldTrials f) (ruleTrials (entriesIn f))) ∙ ok) .0)
 
   entry-is : (j : ℕ) → j < tableEntries → getD (entriesIn f) j 0 ≡ entryIn f j
   unfolding entriesIn
@@ -116,7 +116,7 @@ module _ (f : List ℕ) (bytes : (i : ℕ) → getD f i 0 < 256) (ok : loadVerdi
   byte-same k h = go (decLe opening k)
     where
       o : (getD f 0 0 ≡ tableTag) × (256 * getD f 1 0 + getD f 2 0 ≡ tableSize)
-      o = opens-bytes tableTag tableSize f 0 (fields .begins)
+      o = opens-bytes tableTag tableSize f 0 (is-whole .begins)
 
       first : (n : ℕ) → n ≡ k → n < opening → getD (tableField (entriesIn f)) n 0 ≡ getD f n 0
       first zero e l = sym (o .0)
@@ -138,7 +138,7 @@ module _ (f : List ℕ) (bytes : (i : ℕ) → getD f i 0 < 256) (ok : loadVerdi
 
   pub one-field : tableField (entriesIn f) ≡ f
   one-field =
-      ext-getD 0 (tableField (entriesIn f)) f (field-length (entriesIn f) ∙ sym (fields .room))
+      ext-getD 0 (tableField (entriesIn f)) f (field-length (entriesIn f) ∙ sym (is-whole .room))
       (λ i h. byte-same i (omega (arith, h, field-length (entriesIn f))))
 
 -- ---- the table in force keeps the rule
