@@ -295,11 +295,31 @@ fn compare_files(
             refusals::say_refusal(other, Command::Same, scale, second, refusal);
             2
         }
-        Comparison::Same => deliver_comparison(fd, about, first, second, compared),
-        Comparison::OtherKind => deliver_comparison(fd, about, first, second, compared),
-        Comparison::OtherSize => deliver_comparison(fd, about, first, second, compared),
-        Comparison::OtherCell(_) => deliver_comparison(fd, about, first, second, compared),
+        _ => deliver_comparison(fd, about, first, second, compared),
     }
+}
+
+// Reads the second input and compares it with the first; `one` names that.
+fn compare_second(
+    fd: i32,
+    about: &[u8],
+    first: &[u8],
+    one: &[u8],
+    out: &mut [u8],
+    a: &mut [u8],
+    b: &mut [u8],
+) -> u32
+    ensures { λ r. ⌜ r ≤ 2 ⌝ }
+{
+    let number = tool_words::plain_word(1);
+    let mut other = io::large_buffer();
+    let n = tool_io::names::label(&mut other, number, b"standard input");
+    let got = tool_io::input::read_input(number, &other[..n], out);
+    if !got.whole {
+        return 2;
+    }
+    let bytes = got.bytes;
+    compare_files(fd, about, first, &out[..bytes], one, &other[..n], a, b)
 }
 
 // Reads two inputs and compares them.
@@ -313,32 +333,15 @@ fn compare_inputs(
 ) -> u32
     ensures { λ r. ⌜ r ≤ 2 ⌝ }
 {
-    let first = tool_words::plain_word(0);
-    let second = tool_words::plain_word(1);
+    let number = tool_words::plain_word(0);
     let mut one = io::large_buffer();
-    let n = tool_io::names::label(&mut one, first, b"standard input");
-    let mut other = io::large_buffer();
-    let m = tool_io::names::label(&mut other, second, b"standard input");
-    let got = tool_io::input::read_input(first, &one[..n], input);
+    let n = tool_io::names::label(&mut one, number, b"standard input");
+    let got = tool_io::input::read_input(number, &one[..n], input);
     if !got.whole {
         return 2;
     }
-    let also = tool_io::input::read_input(second, &other[..m], out);
-    if !also.whole {
-        return 2;
-    }
     let bytes = got.bytes;
-    let more = also.bytes;
-    compare_files(
-        fd,
-        about,
-        &input[..bytes],
-        &out[..more],
-        &one[..n],
-        &other[..m],
-        a,
-        b,
-    )
+    compare_second(fd, about, &input[..bytes], &one[..n], out, a, b)
 }
 
 // ---- the output
@@ -472,16 +475,6 @@ pub extern "C" fn jobtool(
         Command::Help => help::print_help(),
         Command::Version => help::print_version(),
         Command::Unknown => help::usage(),
-        Command::List => run(command, input, out, a, b, c),
-        Command::Draw => run(command, input, out, a, b, c),
-        Command::Tidy => run(command, input, out, a, b, c),
-        Command::Check => run(command, input, out, a, b, c),
-        Command::Show => run(command, input, out, a, b, c),
-        Command::Info => run(command, input, out, a, b, c),
-        Command::Same => run(command, input, out, a, b, c),
-        Command::Motions => run(command, input, out, a, b, c),
-        Command::Table => run(command, input, out, a, b, c),
-        Command::Scan => run(command, input, out, a, b, c),
-        Command::Picture => run(command, input, out, a, b, c),
+        _ => run(command, input, out, a, b, c),
     }
 }
