@@ -29,6 +29,7 @@ import jobs
 import library
 import maps
 import peers
+import port
 import scans
 import tables
 from guard import Blank, Desk, Free, Region
@@ -154,6 +155,30 @@ def table_motions(judge, index, rng, all_calls):
     judge.desk.front = False
 
 
+def port_statuses(judge, index, rng, all_calls):
+    """Each 16th status."""
+    for status in range(index % 16, 256, 16):
+        port.compare_status(judge, rng, status)
+
+
+def port_runs(judge, index, rng, all_calls):
+    """Number 0 goes on until the count has stopped."""
+    if index == 0:
+        port.compare_fresh(judge)
+    port.compare_runs(judge, rng, many=2000)
+
+
+def port_traces(judge, index, rng, all_calls):
+    """Number 0 goes on until the count has stopped. Each fourth with a guard page before each buffer."""
+    judge.desk.front = index % 4 == 3
+    if index == 0:
+        port.compare_every_byte(judge, rng)
+    port.compare_traces(judge, rng, many=10)
+    if index == 0:
+        port.compare_long_traces(judge, rng)
+    judge.desk.front = False
+
+
 def threads(judge, index, rng, all_calls):
     """Calls from several threads at once, each with buffers of its own: each answer as if it were alone."""
     def many_times(plate, desk):
@@ -187,6 +212,9 @@ SECTIONS = {
     "motions": (press_motions, 16, 2, True),
     "tables": (sink_tables, 16, 4, True),
     "table-motions": (table_motions, 8, 1, True),
+    "port": (port_statuses, 16, 16, True),
+    "port-runs": (port_runs, 40, 4, True),
+    "port-traces": (port_traces, 40, 4, True),
 }
 
 
@@ -257,7 +285,7 @@ def main():
     counts, extra, first, crashed = share_out(asked, cases, all_calls)
     differences = table(counts, extra, time.time() - started)
     if not all_calls:
-        print("SKIPPED: job files and motions" + (f" (missing: {', '.join(missing_jobs)})" if missing_jobs else ""))
+        print("SKIPPED: job files, motions and the port" + (f" (missing: {', '.join(missing_jobs)})" if missing_jobs else ""))
     for line in crashed:
         print(line)
     if first:

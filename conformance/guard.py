@@ -81,12 +81,17 @@ class Outcome:
 
 
 def fields(answer):
-    """A struct's numbers as a tuple, none of a call that answers nothing; a float is given by its 64 bits."""
-    numbers = []
+    """A struct's parts as a tuple, none of a call that answers nothing; a float is given by its 64 bits."""
+    parts = []
     for name, form in answer._fields_ if answer is not None else ():
-        number = getattr(answer, name)
-        numbers.append(bits(number) if form is ctypes.c_double else number)
-    return tuple(numbers)
+        part = plain(getattr(answer, name))
+        parts.append(bits(part) if form is ctypes.c_double else part)
+    return tuple(parts)
+
+
+def plain(part):
+    """A number as it is; an array of bytes, or a struct that holds one, by its bytes."""
+    return bytes(part) if isinstance(part, (ctypes.Array, ctypes.Structure)) else part
 
 
 def bits(number):

@@ -1,7 +1,7 @@
 """Makes calls, compares what comes back with what is expected, and keeps count."""
 import numpy as np
 
-from guard import UNTOUCHED, Blank, Desk, Free
+from guard import UNTOUCHED, Blank, Desk, Free, plain
 
 ANY = None    # in an expected answer: a number that is not looked at
 
@@ -81,7 +81,7 @@ class Judge:
 
 
 def spelled(part):
-    return [getattr(part, name) for name, _ in part._fields_] if hasattr(part, "_fields_") else part
+    return [plain(getattr(part, name)) for name, _ in part._fields_] if hasattr(part, "_fields_") else part
 
 
 def different(got, want, number):

@@ -1,6 +1,6 @@
 """The C interface, include/haruseopda.h, for ctypes."""
 import ctypes
-from ctypes import c_double, c_size_t, c_uint32, c_void_p
+from ctypes import c_double, c_size_t, c_uint8, c_uint32, c_void_p
 
 
 class Answer(ctypes.Structure):
@@ -23,6 +23,14 @@ class Scale(ctypes.Structure):
 class MotionsAnswer(ctypes.Structure):
     _fields_ = [("number", c_uint32), ("changed", c_uint32), ("place", c_size_t), ("width", c_double), ("x", c_double),
                 ("y", c_double), ("sink", c_double)]
+
+
+class Port(ctypes.Structure):
+    _fields_ = [("bytes", c_uint8 * 8)]
+
+
+class PortAnswer(ctypes.Structure):
+    _fields_ = [("number", c_uint32), ("place", c_size_t), ("port", Port)]
 
 
 BUFFER = [c_void_p, c_size_t]
@@ -52,6 +60,10 @@ JOB_CALLS = {
     "haru_write_table": (Answer, TABLE + BUFFER),
     "haru_built_in_table": (None, TABLE),
     "haru_table_motions": (MotionsAnswer, TABLE + BUFFER + [c_size_t, Scale]),
+    "haru_fresh_port": (Port, []),
+    "haru_port_write": (PortAnswer, [Port, c_size_t, c_uint8]),
+    "haru_port_event": (PortAnswer, [Port, c_uint32]),
+    "haru_port_run": (PortAnswer, [Port] + 2 * BUFFER),
 }
 
 

@@ -34,6 +34,8 @@
  *   13  a scale number is outside its range or not a number
  *   14  the plunge number is not below the total
  *   15  sink table: an entry breaks the rule (place: the first byte of the first such entry in the field)
+ *   16  press port: a write to byte 0, 6, 7 or beyond, before 17
+ *   17  press port: a write or an event that the present status does not accept
  *
  * Link with libharuseopda.a, which `rt staticlib haruseopda` writes to target/staticlib.
  */
@@ -177,6 +179,64 @@ haru_motions_answer haru_motions(const uint8_t *file, size_t file_len, size_t i,
 
 /* The same by another table: one that was loaded, or any 256 numbers. */
 haru_motions_answer haru_table_motions(const uint16_t table[HARU_TABLE_ENTRIES], const uint8_t *file, size_t file_len, size_t i, haru_scale scale);
+
+/* ---- the press port: docs/PORT.md has its statuses as a picture and a run of it, byte for byte. */
+
+/* Where each byte stands. The plunges done have two bytes, high byte first. */
+#define HARU_PORT_BYTES 8
+#define HARU_PORT_STATUS 0
+#define HARU_PORT_COMMAND 1
+#define HARU_PORT_COLUMN 2
+#define HARU_PORT_ROW 3
+#define HARU_PORT_REACH 4
+#define HARU_PORT_DEPTH 5
+#define HARU_PORT_DONE_HIGH 6
+#define HARU_PORT_DONE_LOW 7
+
+/* The bits of a status. A port that began fresh has one of five statuses: READY, BUSY, FAULT, INTERRUPT + READY (129), INTERRUPT + FAULT (132). */
+#define HARU_READY 1
+#define HARU_BUSY 2
+#define HARU_FAULT 4
+#define HARU_INTERRUPT 128
+
+/* What the host writes to byte 1: sink the plunge, the interrupt was seen, the fault was mended. */
+#define HARU_START 1
+#define HARU_ACKNOWLEDGE 2
+#define HARU_CLEAR 3
+
+/* The events of the press. The numbers are ours. */
+#define HARU_EVENT_DONE 1
+#define HARU_EVENT_FAULT 2
+
+/* A port is its eight bytes, handed over by value: the caller keeps them, and shows them to the press maker where and when it likes. Any eight bytes
+ * are taken; a status that is none of the five accepts nothing. */
+typedef struct {
+    uint8_t bytes[HARU_PORT_BYTES];
+} haru_port;
+
+/* port: the bytes after the call, and on a refusal those before it; either way the ones to keep. */
+typedef struct {
+    uint32_t number;
+    size_t place;
+    haru_port port;
+} haru_port_answer;
+
+/* A port as it is at start: status 1, all else 0. */
+haru_port haru_fresh_port(void);
+
+/* The host writes a byte. Byte 1 is a command: START turns 1 into 2, ACKNOWLEDGE 129 into 1 and 132 into 4, CLEAR 4 into 1; byte 1 keeps it if it is
+ * accepted. Bytes 2 to 5 take any value with status 1, and with no other (129 is not 1). Refusals 16 (any index but 1 to 5), 17. */
+haru_port_answer haru_port_write(haru_port port, size_t index, uint8_t value);
+
+/* An event of the press, with status 2: DONE turns it into 129 and adds one to the plunges done, which stop at 65535; FAULT turns it into 132. Refusal 17
+ * for all else, other numbers of an event too. */
+haru_port_answer haru_port_event(haru_port port, uint32_t event);
+
+/* Writes and events one after the other, as from a log: each has three bytes in the trace. A write is 0, its index, its value; an event is 1 (or anything
+ * but 0), its number, and a byte that is not looked at. The number of each answer (0, 16 or 17) goes into numbers, one byte each; the port is the one
+ * after the last. Refusals 6 (the trace ends inside an input; place: that input's first byte), 5 (fewer bytes in numbers than inputs; place: how many
+ * inputs): nothing is run then. */
+haru_port_answer haru_port_run(haru_port port, const uint8_t *trace, size_t trace_len, uint8_t *numbers, size_t numbers_len);
 
 #ifdef __cplusplus
 }

@@ -5,11 +5,14 @@ use listing::ListAnswer;
 use motion::MotionAnswer;
 use motion_floats::Motion;
 use motion_floats::Motions;
+use port::Port;
+use port::PortAnswer;
 use reading::ReadAnswer;
 use refusal::Verdict;
 ghost use mathlib.Core.Path.{_≡_};
 ghost use Rattle.c_answers.specs.Told.{ofVerdict, ofCell, ofVolume};
 ghost use Rattle.c_answers.specs.Jobs.{ofRead, ofList, ofMotion, ofThree, ofMotions};
+ghost use Rattle.c_answers.specs.Ports.{ofPort};
 
 // ---- maps
 
@@ -211,5 +214,28 @@ pub fn of_motions(answer: MotionAnswer) -> HaruMotions
             y: 0.0,
             sink: 0.0,
         },
+    }
+}
+
+// ---- the press port
+
+// A port after a call, with a refusal's number and place.
+#[repr(C)]
+pub struct HaruPortAnswer {
+    pub number: u32,
+    pub place: usize,
+    pub port: Port,
+}
+
+pub fn of_port(answer: PortAnswer) -> HaruPortAnswer
+    ensures { λ r. ⌜ r ≡ ofPort answer ⌝ }
+{
+    let port = answer.port;
+    let verdict = answer.verdict;
+    let told = of_verdict(verdict);
+    HaruPortAnswer {
+        number: told.number,
+        place: told.place,
+        port,
     }
 }

@@ -3,7 +3,9 @@ use c_answers::HaruAnswer;
 use c_answers::HaruJob;
 use c_answers::HaruListAnswer;
 use c_answers::HaruMotions;
+use c_answers::HaruPortAnswer;
 use c_arguments::HaruScale;
+use port::Port;
 use residue_scores::Score;
 ghost use mathlib.Core.Path.{_≡_};
 ghost use Rattle.residue_scores.specs.declared.Score.the-variants.{Largest, Sum};
@@ -20,6 +22,9 @@ ghost use Rattle.motion.specs.Motions.{motionsIn};
 ghost use Rattle.c_arguments.specs.Scale.{scaleOf};
 ghost use Rattle.c_answers.specs.Told.{ofCell, ofVolume, Told};
 ghost use Rattle.c_answers.specs.Jobs.{ofRead, ToldList, ofMotions};
+ghost use Rattle.c_answers.specs.Ports.{ofPort, ToldPort};
+ghost use Rattle.port.specs.Machine.{fresh, written, happened};
+ghost use Rattle.port_run.specs.Traces.{TraceRun};
 
 // ---- maps
 
@@ -345,4 +350,38 @@ pub extern "C" fn haru_table_motions(
     ensures { λ r. ⌜ r ≡ ofMotions (motionsIn (now (table .entry)) (now (file .entry)) i (scaleOf scale)) ⌝ }
 {
     c_answers::of_motions(motion::plunge_motions(table, file, i, c_arguments::scale_of(scale)))
+}
+
+// ---- the press port
+
+// A port as it is at start.
+#[no_mangle]
+pub extern "C" fn haru_fresh_port() -> Port
+    ensures { λ r. ⌜ r ≡ fresh ⌝ }
+{
+    port::fresh()
+}
+
+// A write of the host.
+#[no_mangle]
+pub extern "C" fn haru_port_write(port: Port, index: usize, value: u8) -> HaruPortAnswer
+    ensures { λ r. ⌜ r ≡ ofPort (written port index value) ⌝ }
+{
+    c_answers::of_port(port::write(port, index, value))
+}
+
+// An event of the press.
+#[no_mangle]
+pub extern "C" fn haru_port_event(port: Port, event: u32) -> HaruPortAnswer
+    ensures { λ r. ⌜ r ≡ ofPort (happened port event) ⌝ }
+{
+    c_answers::of_port(port::event(port, event))
+}
+
+// Writes and events one after the other, three bytes each; the number of each answer into numbers.
+#[no_mangle]
+pub extern "C" fn haru_port_run(port: Port, trace: &[u8], numbers: &mut [u8]) -> HaruPortAnswer
+    ensures { λ r. ⌜ ToldPort (TraceRun port (now (trace .entry)) (now (numbers .entry)) (now (numbers .exit))) r ⌝ }
+{
+    c_answers::of_port(port_run::run(port, trace, numbers))
 }

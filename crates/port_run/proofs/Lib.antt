@@ -1,0 +1,4 @@
+pub mod Running
+pub mod Verdicts
+pub mod Traces
+pub mod Vectors
