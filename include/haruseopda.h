@@ -225,7 +225,8 @@ typedef struct {
 haru_port haru_fresh_port(void);
 
 /* The host writes a byte. Byte 1 is a command: START turns 1 into 2, ACKNOWLEDGE 129 into 1 and 132 into 4, CLEAR 4 into 1; byte 1 keeps it if it is
- * accepted. Bytes 2 to 5 take any value with status 1, and with no other (129 is not 1). Refusals 16 (any index but 1 to 5), 17. */
+ * accepted. Bytes 2 to 5 take any value with status 1, and with no other (129 is not 1). Refusals 16 (any index but 1 to 5), 17. The value is a byte:
+ * a larger number is cut by C itself before the call sees it. */
 haru_port_answer haru_port_write(haru_port port, size_t index, uint8_t value);
 
 /* An event of the press, with status 2: DONE turns it into 129 and adds one to the plunges done, which stop at 65535; FAULT turns it into 132. Refusal 17

@@ -1,7 +1,7 @@
 -- What each status accepts: the inputs of a table's entries that are about the status.
 use mathlib.Core.Path.{_≡_, refl, ap, _∙_}
 use mathlib.Core.Bool.{Bool, true, false, cond, not}
-use mathlib.Core.List.{List, [], _∷_}
+use mathlib.Core.List.{List, [], _∷_, List·Memᴰ, List·Memᴰ·head, List·Memᴰ·tail}
 use Prim.Native.Nat.{ℕ, _+_}
 use lib.Dec.{eqb, ltb}
 use native.Mathlib.Omega.{arith}
@@ -10,7 +10,8 @@ use Rattle.geometry.specs.Lists.{any}
 use Rattle.refusal.specs.Refusals.{trial, firstMet}
 use Rattle.port.specs.Machine.{statusByte, commandByte, highByte, doneEvent, faultEvent, ready, busy, fault, interrupt}
 use Rattle.port.specs.Machine.{Turn, named, commands, events, readOnly, writeNamed}
-use Rattle.port_theorems.specs.Accepted.{isAccepted, writeAccepted, eventAccepted, OneCommand, Accepting}
+use Rattle.port_theorems.specs.Runs.{statuses}
+use Rattle.port_theorems.specs.Accepted.{isAccepted, writeAccepted, eventAccepted, OneCommand, Nothing, Accepting}
 
 -- the inputs that a table names for a status
 abbrev inputs : List Turn → ℕ → List ℕ
@@ -80,6 +81,35 @@ one-command s n e none other =
       events = λ k. events-of s k ∙ ap (any (eqb k)) none;
     }
 
+-- a status that no entry is about
+nothing : (s : ℕ) → (List·Memᴰ s statuses → ⊥) → Nothing s
+nothing s other =
+    record {
+      writes = λ i v. writes-of s i v ∙ rw (named-inputs commands s v, no-command, unready) (command-writable i false ∙ none (eqb i commandByte));
+      events = λ e. events-of s e ∙ ap (any (eqb e)) no-event;
+    }
+  where
+    unready : eqb s ready ≡ false
+    unready = ne-eqb s ready (λ e. other (List·Memᴰ·head e))
+
+    idle : eqb s busy ≡ false
+    idle = ne-eqb s busy (λ e. other (List·Memᴰ·tail (List·Memᴰ·head e)))
+
+    whole : eqb s fault ≡ false
+    whole = ne-eqb s fault (λ e. other (List·Memᴰ·tail (List·Memᴰ·tail (List·Memᴰ·head e))))
+
+    undone : eqb s (interrupt + ready) ≡ false
+    undone = ne-eqb s (interrupt + ready) (λ e. other (List·Memᴰ·tail (List·Memᴰ·tail (List·Memᴰ·tail (List·Memᴰ·head e)))))
+
+    unfailed : eqb s (interrupt + fault) ≡ false
+    unfailed = ne-eqb s (interrupt + fault) (λ e. other (List·Memᴰ·tail (List·Memᴰ·tail (List·Memᴰ·tail (List·Memᴰ·tail (List·Memᴰ·head e))))))
+
+    no-command : inputs commands s ≡ []
+    no-command = rw (unready, undone, unfailed, whole)
+
+    no-event : inputs events s ≡ []
+    no-event = rw idle
+
 pub accepting : Accepting
 accepting =
     record {
@@ -94,6 +124,7 @@ accepting =
       whenDone = one-command (interrupt + ready) 2 refl refl refl;
       whenFailed = one-command (interrupt + fault) 2 refl refl refl;
       whenFault = one-command fault 3 refl refl refl;
+      whenOther = nothing;
     }
   where
     both : (a b : Bool) → cond a true (cond b true false) ≡ cond a true b

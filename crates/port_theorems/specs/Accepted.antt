@@ -1,11 +1,13 @@
 -- To be believed: which writes and events each status of a port accepts. docs/PORT.md has the same as a table.
 use mathlib.Core.Path.{_≡_}
 use mathlib.Core.Bool.{Bool, true, false, cond}
+use mathlib.Core.List.{List·Memᴰ}
 use Prim.Native.Nat.{ℕ, _+_}
 use lib.Dec.{eqb, ltb}
 use Rattle.refusal.specs.declared.Verdict.{Verdict}
 use Rattle.refusal.specs.declared.Verdict.the-variants.{Accepted, Refused}
 use Rattle.port.specs.Machine.{commandByte, highByte, doneEvent, faultEvent, ready, busy, fault, interrupt, writeVerdict, eventVerdict}
+use Rattle.port_theorems.specs.Runs.{statuses}
 
 abbrev pub isAccepted : Verdict → Bool
 isAccepted Accepted = true
@@ -32,9 +34,16 @@ pub record Busy : Type 0 where
   pub writes : (i v : ℕ) → writeAccepted busy i v ≡ false
   pub events : (e : ℕ) → eventAccepted busy e ≡ cond (eqb e doneEvent) true (eqb e faultEvent)
 
+-- a status that accepts nothing
+pub record Nothing (s : ℕ) : Type 0 where
+  pub writes : (i v : ℕ) → writeAccepted s i v ≡ false
+  pub events : (e : ℕ) → eventAccepted s e ≡ false
+
+-- the five statuses that a fresh port comes to; any other accepts nothing
 pub record Accepting : Type 0 where
   pub whenReady : Ready
   pub whenBusy : Busy
   pub whenDone : OneCommand (interrupt + ready) 2
   pub whenFailed : OneCommand (interrupt + fault) 2
   pub whenFault : OneCommand fault 3
+  pub whenOther : (s : ℕ) → (List·Memᴰ s statuses → ⊥) → Nothing s
