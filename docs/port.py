@@ -1,5 +1,5 @@
 #!/usr/bin/env python3
-"""docs/port.py: the press port's tables as they stand in crates/port/specs/Machine.antt, for docs/PORT.md. Needs python3 without packages.
+"""docs/port.py: the press port's tables as they stand in crates/port/specs/Machine.antt, for docs/PORT-OTHER.md. Needs python3 without packages.
 
     docs/port.py            draws docs/port.svg, and writes the table of turns and the run of PORT.md anew
     docs/port.py --check    writes nothing; ends with 1 where one of them is not what it makes
@@ -15,7 +15,7 @@ sys.path.append(os.path.join(TOP, "tests"))
 import press_port  # noqa: E402
 
 MACHINE = os.path.join(TOP, "crates", "port", "specs", "Machine.antt")
-PAGE = os.path.join(TOP, "docs", "PORT.md")
+PAGE = os.path.join(TOP, "docs", "PORT-OTHER.md")
 PICTURE = os.path.join(TOP, "docs", "port.svg")
 
 # where each status stands in the picture, and the words for it

@@ -1,4 +1,4 @@
-/* A run of the press port, as docs/PORT.md has it: each write or event, the refusal if there is one, and the eight bytes after it. Built and run by
+/* A run of the press port, as docs/PORT-OTHER.md has it: each write or event, the refusal if there is one, and the eight bytes after it. Built and run by
  * examples/run. */
 #include "haruseopda.h"
 

@@ -180,7 +180,7 @@ haru_motions_answer haru_motions(const uint8_t *file, size_t file_len, size_t i,
 /* The same by another table: one that was loaded, or any 256 numbers. */
 haru_motions_answer haru_table_motions(const uint16_t table[HARU_TABLE_ENTRIES], const uint8_t *file, size_t file_len, size_t i, haru_scale scale);
 
-/* ---- the press port: docs/PORT.md has its statuses as a picture and a run of it, byte for byte. */
+/* ---- the press port: docs/PORT-OTHER.md has its statuses as a picture and a run of it, byte for byte. */
 
 /* Where each byte stands. The plunges done have two bytes, high byte first. */
 #define HARU_PORT_BYTES 8

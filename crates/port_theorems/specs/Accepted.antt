@@ -1,4 +1,4 @@
--- To be believed: which writes and events each status of a port accepts. docs/PORT.md has the same as a table.
+-- To be believed: which writes and events each status of a port accepts. docs/PORT-OTHER.md has the same as a table.
 use Rattle.std.specs.Prelude.{◌≡◌, Bool, true, false, cond, ℕ, ◌+◌, eqb, ltb}
 use mathlib.Core.List.{Memᴰ}
 use Rattle.refusal.specs.declared.Verdict.{Verdict}
