@@ -1,7 +1,7 @@
 #!/usr/bin/env python3
 """docs/port.py: the press port's tables as they stand in crates/port/specs/Machine.antt, for docs/PORT-OTHER.md. Needs python3 without packages.
 
-    docs/port.py            draws docs/port.svg, and writes the table of turns and the run of PORT.md anew
+    docs/port.py            draws docs/port.svg, and writes the table of turns and the run of PORT-OTHER.md anew
     docs/port.py --check    writes nothing; ends with 1 where one of them is not what it makes
 
 The tables are held to those of tests/press_port.py, which are made from the request's words alone; so are the numbers of the run.

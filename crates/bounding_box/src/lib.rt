@@ -1,5 +1,6 @@
 // The smallest box of a plate outside of which a map is 0; a box copied to another map, a map cropped to a box in place, and a box spread out
 // over its plate in place.
+#![tactic(auto)]
 ghost use Rattle.std.specs.Prelude.{◌≡◌, ◌+◌, ◌-◌, ◌≤◌, length, get_or};
 ghost use Rattle.geometry.specs.Plate.{area};
 ghost use Rattle.refusal.specs.Refusals.{largest_side};
@@ -15,7 +16,7 @@ use geometry::Head;
 const SIDE: usize = refusal::LARGEST_SIDE as usize;
 
 // A box of a plate: its first column and its first row, and how many there are.
-#[derive(Drop)]
+#[derive(Clone, Copy)]
 pub struct Bounds {
     pub column: usize,
     pub row: usize,
@@ -24,7 +25,7 @@ pub struct Bounds {
 }
 
 // Places of an array, one after the other.
-#[derive(Drop)]
+#[derive(Clone, Copy)]
 struct Span {
     first: usize,
     number: usize,

@@ -1,4 +1,5 @@
 // Filling and copying stretches of a buffer.
+#![tactic(auto)]
 ghost use Rattle.std.specs.Prelude.{◌≤◌, length, get_or};
 ghost use Rattle.buffers.specs.Fill.{Filled};
 

@@ -1,4 +1,5 @@
 // The structs of numbers that the C calls give back, and the answers of the calls inside told in them. include/haruseopda.h is their manual.
+#![tactic(auto)]
 ghost use Rattle.std.specs.Prelude.{◌≡◌};
 ghost use Rattle.c_answers.specs.Told.{of_verdict, of_cell, of_volume};
 ghost use Rattle.c_answers.specs.Jobs.{of_read, of_list, of_motion, of_three, of_motions};
@@ -17,7 +18,7 @@ use refusal::Verdict;
 
 // A refusal's number with its place, or 0 and a value.
 #[repr(C)]
-#[derive(Drop)]
+#[derive(Clone, Copy)]
 pub struct HaruAnswer {
     pub number: u32,
     pub value: u32,
@@ -79,7 +80,7 @@ pub fn of_volume(answer: VolumeAnswer) -> HaruAnswer
 
 // What a readable file says, or a refusal's number and place.
 #[repr(C)]
-#[derive(Drop)]
+#[derive(Clone, Copy)]
 pub struct HaruJob {
     pub number: u32,
     pub kind: u32,
@@ -91,7 +92,7 @@ pub struct HaruJob {
 
 // How long an answer's file is, how many plunges it has and how many rungs were climbed, or a refusal's number and place.
 #[repr(C)]
-#[derive(Drop)]
+#[derive(Clone, Copy)]
 pub struct HaruListAnswer {
     pub number: u32,
     pub place: usize,
@@ -152,7 +153,7 @@ pub fn of_list(answer: ListAnswer) -> HaruListAnswer
 
 // The three motions of a plunge, or a refusal's number and place; width is 0 for a stay.
 #[repr(C)]
-#[derive(Drop)]
+#[derive(Clone, Copy)]
 pub struct HaruMotions {
     pub number: u32,
     pub changed: u32,
@@ -224,7 +225,7 @@ pub fn of_motions(answer: MotionAnswer) -> HaruMotions
 
 // A port after a call, with a refusal's number and place.
 #[repr(C)]
-#[derive(Drop)]
+#[derive(Clone, Copy)]
 pub struct HaruPortAnswer {
     pub number: u32,
     pub place: usize,

@@ -1,5 +1,6 @@
 // What a C call is given, as the calls inside take it: numbers of 32 bits, of which one that fits is kept and another becomes one that gets the
 // same refusal; and the struct of a scale. include/haruseopda.h is its manual.
+#![tactic(auto)]
 ghost use Rattle.std.specs.Prelude.{◌≡◌};
 ghost use Rattle.c_arguments.specs.Narrow.{narrow_byte, narrow_word, narrow_plate};
 ghost use Rattle.c_arguments.specs.Scale.{scale_of};
@@ -23,7 +24,7 @@ pub fn narrow_word(n: u32) -> u16
 }
 
 // What a call is told of its plate, refused or not.
-#[derive(Drop)]
+#[derive(Clone, Copy)]
 pub struct Plate {
     pub kind: u8,
     pub width: u16,
@@ -44,7 +45,7 @@ pub fn narrow_plate(kind: u32, width: u32, height: u32) -> Plate
 
 // Millimetres: half the pitch of the cells, and the offsets of columns and rows.
 #[repr(C)]
-#[derive(Drop)]
+#[derive(Clone, Copy)]
 pub struct HaruScale {
     pub half_pitch: f64,
     pub column_offset: f64,

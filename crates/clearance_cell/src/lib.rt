@@ -1,4 +1,5 @@
 // The clearance of one cell: rows are searched outwards from the cell's, no further than the nearest wall found so far.
+#![tactic(auto)]
 ghost use Rattle.std.specs.Prelude.{◌≡◌, ◌+◌, ◌≤◌, ◌<◌, length};
 ghost use Rattle.geometry.specs.Plane.{cell};
 ghost use Rattle.theory.specs.Levels.{clearance};
@@ -9,7 +10,7 @@ use geometry::{Clearance, Head, Kind};
 use refusal::{Refusal, Verdict};
 
 // The clearance, or the first refusal met.
-#[derive(Drop)]
+#[derive(Clone, Copy)]
 pub enum CellAnswer {
     Cleared(Clearance),
     NotCleared(Refusal),

@@ -1,4 +1,5 @@
 // The climb of a relief: residue after residue, in runs of places, each on the region of the plate where its erosion is not bare.
+#![tactic(auto)]
 ghost use Rattle.std.specs.Prelude.{◌≡◌, true, false, ◌-◌, ◌≤◌, length};
 ghost use Rattle.geometry.specs.Plate.{area};
 ghost use Rattle.theory.specs.Climbed.{Bare};
@@ -20,7 +21,7 @@ const RESIDUES: usize = 12;
 const COLUMNS: usize = 24;
 
 // A region of a plate outside of which an erosion is 0: a plate of its own, where its first cell lies, and the erosion's number.
-#[derive(Drop)]
+#[derive(Clone, Copy)]
 pub struct Region {
     pub head: Head,
     pub column: usize,
@@ -29,7 +30,7 @@ pub struct Region {
 }
 
 // Where a climb is: its plate, its region, and where the series of the region's residues stands.
-#[derive(Drop)]
+#[derive(Clone, Copy)]
 pub struct Climb {
     pub plate: Head,
     pub region: Region,
@@ -37,7 +38,7 @@ pub struct Climb {
 }
 
 // What an array of marks is of: a region, a reach, some places, and a number no lower than any mark.
-#[derive(Drop)]
+#[derive(Clone, Copy)]
 pub struct Found {
     pub region: Region,
     pub reach: Reach,
@@ -46,7 +47,7 @@ pub struct Found {
 }
 
 // A run of a climb, and where it is after it.
-#[derive(Drop)]
+#[derive(Clone, Copy)]
 pub struct Step {
     pub found: Found,
     pub next: Climb,

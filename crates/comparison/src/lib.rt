@@ -1,4 +1,5 @@
 // Whether two job files cut the same relief, and the first cell where they do not.
+#![tactic(auto)]
 ghost use Rattle.std.specs.Prelude.{◌≡◌, ◌≤◌, length};
 ghost use Rattle.geometry.specs.Plate.{area};
 ghost use Rattle.refusal.specs.Sides.{Sides};
@@ -9,7 +10,7 @@ use geometry::Head;
 use refusal::{Refusal, Verdict};
 
 // A cell whose depths differ, with the depth in each relief.
-#[derive(Drop)]
+#[derive(Clone, Copy)]
 pub struct Difference {
     pub column: usize,
     pub row: usize,
@@ -18,7 +19,7 @@ pub struct Difference {
 }
 
 // What two files have in common: the relief; not the kind; not the size; not a cell; or one of them is refused.
-#[derive(Drop)]
+#[derive(Clone, Copy)]
 pub enum Comparison {
     Same,
     OtherKind,

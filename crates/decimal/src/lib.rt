@@ -1,4 +1,5 @@
 // Decimal text as the nearest float.
+#![tactic(auto)]
 ghost use Rattle.std.specs.Prelude.{◌≡◌, ◌^◌, ◌<◌, ◌≤◌, if◌then◌else◌};
 ghost use Rattle.std.specs.Float.{binary64};
 ghost use Rattle.std.specs.Float.Ieee.{round};
@@ -6,7 +7,7 @@ ghost use Rattle.decimal.specs.Decimal.{is_digit, decimal_of, unsigned_of};
 ghost use Rattle.decimal.specs.Scan.{Bounded, begun, spoiled, pointed, with_digit, scanned_byte, scanned};
 
 // What a text is: the nearest float, no number, or a number of more than 15 digits.
-#[derive(Drop)]
+#[derive(Clone, Copy)]
 pub enum Decimal {
     Number(f64),
     NotNumber,
@@ -15,7 +16,7 @@ pub enum Decimal {
 
 // What was read of a number without its sign: its digits as one number, ten to the power of its places after the point,
 // how many digits there were (16 for any more), whether a point came, and whether all is right so far.
-#[derive(Drop)]
+#[derive(Clone, Copy)]
 pub struct Scan {
     pub digits: u64,
     pub unit: u64,

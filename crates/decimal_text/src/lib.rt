@@ -1,4 +1,5 @@
 // A float as the shortest decimal text, which read again is that float.
+#![tactic(auto)]
 ghost use Rattle.std.specs.Prelude.{◌≡◌, cond, ◌+◌, ◌*◌, ◌/◌, ◌%◌, ◌^◌, ◌≤◌, ◌<◌, eqb, leb};
 ghost use Rattle.std.specs.Float.Ieee.Nearest.{closest};
 ghost use Rattle.decimal_text.specs.Digits.{one, parts_of, most_digits, shortest_digits};
@@ -6,14 +7,14 @@ ghost use Rattle.decimal_text.specs.Text.{Put, text_of, hexadecimal, not_number,
 ghost use Rattle.decimal_text.specs.Printing.{is_far, capped, bits_text};
 
 // What follows the point: a number of so many digits.
-#[derive(Drop)]
+#[derive(Clone, Copy)]
 pub struct Digits {
     pub number: u64,
     pub count: usize,
 }
 
 // A float's size, whole + fraction / 2^64, and half the distance to the nearest other float, over 2^64.
-#[derive(Drop)]
+#[derive(Clone, Copy)]
 pub struct Parts {
     pub whole: u64,
     pub fraction: u64,
@@ -21,7 +22,7 @@ pub struct Parts {
 }
 
 // The digit of a fraction that comes next, and what is left over, over 2^64.
-#[derive(Drop)]
+#[derive(Clone, Copy)]
 struct Step {
     digit: u64,
     rest: u64,

@@ -1,4 +1,5 @@
 // A box of a plate that holds the balls of a file's plunges, and the plunges as they lie on it, taken for a plate of its own.
+#![tactic(auto)]
 ghost use Rattle.std.specs.Prelude.{◌≡◌, ◌≤◌, ◌<◌};
 ghost use Rattle.geometry.specs.Forms.{largest_reach};
 ghost use Rattle.refusal.specs.Sides.{Sides};
@@ -18,7 +19,7 @@ const CELLS: usize = 64;
 const EDGE: usize = 16;
 
 // What is drawn: a plate, how many plunges its file has, and a box of the plate that holds their balls.
-#[derive(Drop)]
+#[derive(Clone, Copy)]
 pub struct Drawing {
     pub head: Head,
     pub count: usize,
@@ -26,7 +27,7 @@ pub struct Drawing {
 }
 
 // The columns and rows that some balls hold, each from the first up to one past the last.
-#[derive(Drop)]
+#[derive(Clone, Copy)]
 struct Extent {
     left: usize,
     right: usize,

@@ -1,4 +1,5 @@
 // Maps of all levels at once, as calls: erosions, residues, scores, and the volume.
+#![tactic(auto)]
 ghost use Rattle.std.specs.Prelude.{◌≡◌, false, ◌≤◌, min, length, take};
 ghost use Rattle.geometry.specs.Lists.{sum};
 ghost use Rattle.erosion_series.specs.Pairs.{MapBuffers, MapFilled};
@@ -10,7 +11,7 @@ use refusal::{Refusal, Verdict};
 use residue_scores::Score;
 
 // The volume, or the first refusal met.
-#[derive(Drop)]
+#[derive(Clone, Copy)]
 pub enum VolumeAnswer {
     Volume(u32),
     NoVolume(Refusal),
@@ -24,7 +25,7 @@ fn shortest(relief: usize, out: usize, a: usize, b: usize) -> usize
 }
 
 // Which map of a relief is asked for.
-#[derive(Drop)]
+#[derive(Clone, Copy)]
 enum Asked {
     Erosion(u16),
     Residue(u16),

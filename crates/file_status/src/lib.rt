@@ -1,5 +1,6 @@
 // What a file name stands for, asked of the system: a file's kind, permissions and owner, where a link leads, whether it may be
 // written. No contract can say what a system call answers: test_file_status shows it at work. Which names are handed over is proved.
+#![tactic(auto)]
 ghost use Rattle.std.specs.Prelude.{◌≡◌, false};
 ghost use Rattle.io.specs.Counts.{IsPrefixLen};
 ghost use Rattle.file_status.specs.Names.{is_path, IsStatus};
@@ -12,7 +13,7 @@ use system::{stat_path, zero_stat};
 
 // What the system says of a name: whether there is a file, its kind and permissions (C's st_mode; `mode & libc::S_IFMT` is the
 // kind), its owner and its group.
-#[derive(Drop)]
+#[derive(Clone, Copy)]
 pub struct FileStatus {
     pub found: bool,
     pub mode: u32,

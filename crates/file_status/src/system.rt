@@ -4,7 +4,7 @@ ghost use Rattle.libc.specs.Io.{Ended, Status};
 use libc::{PATH_MAX, types};
 
 // What the call answered, 0 or -1, and what the struct then held.
-#[derive(Drop)]
+#[derive(Clone, Copy)]
 pub struct StatAnswer {
     pub status: i32,
     pub mode: u32,

@@ -1,4 +1,5 @@
 // Kinds, heads, reaches and plunges: the forms that document 01 names, each with its whole meaning in its contract.
+#![tactic(auto)]
 ghost use Rattle.std.specs.Prelude.{◌≡◌, max, pos};
 ghost use Rattle.geometry.specs.Plane.{cell, gap, dist};
 ghost use Rattle.geometry.specs.Forms.{kind_byte, kind_of, reach_of, reach_of_clearance};
@@ -6,28 +7,28 @@ ghost use Rattle.geometry.specs.Plunges.{covers, inside, fits_plate};
 ghost use Rattle.geometry.specs.Sizes.{size_of};
 
 // The two kinds of ball: a diamond's cells share sides, a square's also corners.
-#[derive(Drop)]
+#[derive(Clone, Copy)]
 pub enum Kind {
     Diamond,
     Square,
 }
 
 // The kind that a byte names, if it names one.
-#[derive(Drop)]
+#[derive(Clone, Copy)]
 pub enum MaybeKind {
     OfKind(Kind),
     NoKind,
 }
 
 // The size of a plate: small if both sides are at most 240, and then its numbers are bytes in a file; else two bytes each.
-#[derive(Drop)]
+#[derive(Clone, Copy)]
 pub enum Size {
     Small,
     Large,
 }
 
 // What a list says of its plate.
-#[derive(Drop)]
+#[derive(Clone, Copy)]
 pub struct Head {
     pub kind: Kind,
     pub width: u16,
@@ -35,22 +36,22 @@ pub struct Head {
 }
 
 // The distance from a cell to the nearest cell outside its shape.
-#[derive(Drop)]
+#[derive(Clone, Copy)]
 pub struct Clearance(pub u16);
 
 // The radius of a ball: of a clearance above 0, one less.
-#[derive(Drop)]
+#[derive(Clone, Copy)]
 pub struct Reach(pub u16);
 
 // The reach that a number stands for, if it stands for one.
-#[derive(Drop)]
+#[derive(Clone, Copy)]
 pub enum MaybeReach {
     OfReach(Reach),
     NoReach,
 }
 
 // One stroke of the press: a ball of a reach about a centre, sunk to a depth.
-#[derive(Drop)]
+#[derive(Clone, Copy)]
 pub struct Plunge {
     pub column: u16,
     pub row: u16,

@@ -1,1 +1,2 @@
 // No code: theorems about calls on files that follow each other (specs/ has their statements, proofs/ the proofs).
+#![tactic(auto)]

@@ -1,4 +1,5 @@
 // The shop's tool over job files. A main in C lends it memory and hands its status to the system, which a program of this language cannot.
+#![tactic(auto)]
 mod help;
 mod moves;
 mod refusals;
@@ -15,7 +16,7 @@ use tool_words::Command;
 
 // What is asked: a command, its scale, the sink table in force, the kind of a scan that is made, whether the rungs climbed are told, which plain
 // word is the first input, and whether what is told is headed by its input's name.
-#[derive(Drop)]
+#[derive(Clone, Copy)]
 struct Request {
     command: Command,
     scale: Scale,

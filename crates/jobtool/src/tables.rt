@@ -5,7 +5,7 @@ use refusal::Verdict;
 use tool_words::Command;
 
 // A table, and the status where there is none: what is wrong was said. 0 where there is one.
-#[derive(Drop)]
+#[derive(Clone, Copy)]
 pub struct Given {
     pub table: [u16; sink::ENTRIES],
     pub status: u32,

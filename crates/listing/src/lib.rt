@@ -1,4 +1,5 @@
 // The listing of a relief as a whole plunge file.
+#![tactic(auto)]
 ghost use Rattle.std.specs.Prelude.{◌≡◌, ◌-◌, ◌≤◌, length, drop};
 ghost use Rattle.std.proofs.Math.Seq.{paste};
 ghost use Rattle.theory.specs.Listing.{listing};
@@ -15,7 +16,7 @@ use listing_pass::Pass;
 use refusal::Refusal;
 
 // How long a list's file is, how many plunges it has, and how many erosions its relief took until it was bare: the rungs climbed.
-#[derive(Drop)]
+#[derive(Clone, Copy)]
 pub struct Extent {
     pub bytes: usize,
     pub plunges: usize,
@@ -23,7 +24,7 @@ pub struct Extent {
 }
 
 // What a listing answers.
-#[derive(Drop)]
+#[derive(Clone, Copy)]
 pub enum ListAnswer {
     Listed(Extent),
     Unlisted(Refusal),

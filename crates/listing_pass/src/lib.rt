@@ -1,10 +1,11 @@
 // A pass over the bytes of a file: they are written to an output, compared with a file, or staged.
+#![tactic(auto)]
 ghost use Rattle.std.specs.Prelude.{◌≡◌, ◌+◌, length, drop};
 ghost use Rattle.fields.specs.Lengths.{IsLength};
 ghost use Rattle.geometry.specs.Lists.{common};
 
 // What is done with bytes. Staged ones are all counted, and written as far as an output has room.
-#[derive(Drop)]
+#[derive(Clone, Copy)]
 pub enum Pass {
     Write,
     Compare,
@@ -12,7 +13,7 @@ pub enum Pass {
 }
 
 // The place that a pass came to, and whether it went over all that it was sent: if not, a byte of the file is unlike there.
-#[derive(Drop)]
+#[derive(Clone, Copy)]
 pub struct Progress {
     pub at: usize,
     pub like: bool,

@@ -1,4 +1,5 @@
 // The listing of a relief, sent run by run in its order: written to an output, compared with a file, or staged.
+#![tactic(auto)]
 ghost use Rattle.std.specs.Prelude.{◌≡◌, ◌+◌, ◌*◌, ◌≤◌, ◌<◌, length, get_or, drop};
 ghost use Rattle.theory.specs.Listing.{listing};
 ghost use Rattle.geometry.specs.Lists.{common};
@@ -18,14 +19,14 @@ use geometry::{Head, Plunge, Size};
 use listing_pass::{Pass, Progress};
 
 // What is done with the plunges of a run, and the size of their fields.
-#[derive(Drop)]
+#[derive(Clone, Copy)]
 pub struct Sending {
     pub pass: Pass,
     pub size: Size,
 }
 
 // Where a listing was sent to, and how many erosions its climb took if it was sent to its end.
-#[derive(Drop)]
+#[derive(Clone, Copy)]
 pub struct SentListing {
     pub progress: Progress,
     pub erosions: usize,

@@ -1,4 +1,5 @@
 // Press motions: what the press does for one plunge of a file, by a sink table.
+#![tactic(auto)]
 ghost use Rattle.std.specs.Prelude.{◌≡◌, ◌<◌};
 ghost use Rattle.refusal.specs.Refusals.{first_met};
 ghost use Rattle.reading.specs.Reading.{total};
@@ -10,7 +11,7 @@ use motion_floats::{Motions, Scale};
 use reading::{Job, ReadAnswer};
 use refusal::{Refusal, Verdict};
 
-#[derive(Drop)]
+#[derive(Clone, Copy)]
 pub enum MotionAnswer {
     Moves(Motions),
     NoMoves(Refusal),

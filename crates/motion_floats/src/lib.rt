@@ -1,11 +1,12 @@
 // The scale, and the motions of one plunge in millimetres, to the last bit.
+#![tactic(auto)]
 ghost use Rattle.std.specs.Prelude.{◌≡◌, cond};
 ghost use Rattle.motion_floats.specs.Floats.{within, scale_in_range, change_width, travel_to, entry_motions};
 
 use geometry::Plunge;
 
 // Millimetres: half the pitch of the cells, and where column 0 and row 0 begin.
-#[derive(Drop)]
+#[derive(Clone, Copy)]
 pub struct Scale {
     pub half_pitch: f64,
     pub column_offset: f64,
@@ -13,7 +14,7 @@ pub struct Scale {
 }
 
 // One motion with its millimetres: a new electrode's width, none, a place, a depth.
-#[derive(Drop)]
+#[derive(Clone, Copy)]
 pub enum Motion {
     Change(f64),
     Stay,
@@ -22,7 +23,7 @@ pub enum Motion {
 }
 
 // The three motions of a plunge, in their order.
-#[derive(Drop)]
+#[derive(Clone, Copy)]
 pub struct Motions {
     pub first: Motion,
     pub second: Motion,

@@ -1,4 +1,5 @@
 // The few functions on numbers that several layers use.
+#![tactic(auto)]
 ghost use Rattle.std.specs.Prelude.{◌≡◌, ◌+◌, ◌*◌, ◌/◌, ◌%◌, min, max};
 
 // The smaller of two numbers.

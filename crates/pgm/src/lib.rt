@@ -1,11 +1,12 @@
 // PGM pictures, a byte for each sample. Nothing is asked of a file: it is read, or its first fault is named.
+#![tactic(auto)]
 ghost use Rattle.std.specs.Prelude.{◌≡◌, true, ◌+◌, ◌-◌, ◌*◌, ◌≤◌, min, length};
 ghost use Rattle.decimal.specs.Decimal.{is_digit};
 ghost use Rattle.pgm.specs.Pgm.{is_white, ends_comment, in_gap, in_comment, largest_number, gap_end, number_at, number_after, opens, header_in, area, count_within, first_fault, in_range, number_trials, numbers_trials, header_trials, raster_trials, sample_trials, picture_of, picture_answer};
 ghost use Rattle.pgm.specs.Steps.{first_of, Sized};
 
 // A number of the header.
-#[derive(Drop)]
+#[derive(Clone, Copy)]
 pub enum Quantity {
     Width,
     Height,
@@ -13,7 +14,7 @@ pub enum Quantity {
 }
 
 // What is wrong with a file, and at which byte.
-#[derive(Drop)]
+#[derive(Clone, Copy)]
 pub enum PictureFault {
     // It does not begin with P5.
     NotPgm,
@@ -30,35 +31,35 @@ pub enum PictureFault {
 }
 
 // A picture in a file: its sides, and the place of its first sample.
-#[derive(Drop)]
+#[derive(Clone, Copy)]
 pub struct Picture {
     pub width: u16,
     pub height: u16,
     pub at: usize,
 }
 
-#[derive(Drop)]
+#[derive(Clone, Copy)]
 pub enum PictureAnswer {
     Found(Picture),
     Faulty(PictureFault),
 }
 
 // A number in the header: its first digit's place, its value, the place behind its digits. With no digits both places are one.
-#[derive(Drop)]
+#[derive(Clone, Copy)]
 pub struct Number {
     pub at: usize,
     pub value: u32,
     pub end: usize,
 }
 
-#[derive(Drop)]
+#[derive(Clone, Copy)]
 pub struct Header {
     pub width: Number,
     pub height: Number,
     pub maxval: Number,
 }
 
-#[derive(Drop)]
+#[derive(Clone, Copy)]
 pub enum Check {
     Passed,
     Failed(PictureFault),

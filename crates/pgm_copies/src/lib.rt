@@ -1,4 +1,5 @@
 // A picture as a scan, and depths as a picture, at the start of a buffer; where something is wrong the buffer stays as it was.
+#![tactic(auto)]
 ghost use Rattle.std.specs.Prelude.{◌≡◌, ◌≤◌, length};
 ghost use Rattle.io.specs.Counts.{IsPrefixLen};
 ghost use Rattle.phrases.specs.Phrases.{Appends};
@@ -8,7 +9,7 @@ ghost use Rattle.pgm.specs.Steps.{Lies};
 use pgm::{Picture, PictureAnswer, PictureFault};
 
 // What copying gives: the number of bytes written, the number needed where the buffer is shorter, too few depths, or a picture's fault.
-#[derive(Drop)]
+#[derive(Clone, Copy)]
 pub enum CopyAnswer {
     Copied(usize),
     NoRoom(usize),

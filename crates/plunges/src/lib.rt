@@ -1,5 +1,6 @@
 // The program of document 01: kind, width, height and depths come in, a byte each; the list of plunges goes out as text. A main in C
 // lends it memory and hands its status to the system, which a program of this language cannot.
+#![tactic(auto)]
 ghost use Rattle.std.specs.Prelude.{◌≤◌};
 
 use libc::{STDIN_FILENO, STDOUT_FILENO};

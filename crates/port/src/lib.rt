@@ -1,4 +1,5 @@
 // The press port: eight bytes that the press maker reads, changed by the host's writes and the press's events.
+#![tactic(auto)]
 ghost use Rattle.std.specs.Prelude.{◌≡◌, ◌+◌, ◌<◌, min};
 ghost use Rattle.refusal.specs.declared.Verdict.TheVariants.{Accepted, Refused};
 ghost use Rattle.port.specs.Machine.{port_bytes, command_byte, largest_count, fresh, status, count, with_byte, with_count};
@@ -31,7 +32,7 @@ pub const BYTES: usize = 8;
 
 // A port: any eight bytes are one.
 #[repr(C)]
-#[derive(Drop)]
+#[derive(Clone, Copy)]
 pub struct Port {
     pub bytes: [u8; BYTES],
 }
@@ -77,14 +78,14 @@ pub const FAULT_EVENT: u32 = 2;
 pub const LARGEST_COUNT: u16 = 65535;
 
 // What reaches a port: the host writes a value to a byte, or an event of the press comes.
-#[derive(Drop)]
+#[derive(Clone, Copy)]
 pub enum Input {
     Write(usize, u8),
     Event(u32),
 }
 
 // The port after an input, and what was said of it.
-#[derive(Drop)]
+#[derive(Clone, Copy)]
 pub struct PortAnswer {
     pub port: Port,
     pub verdict: Verdict,

@@ -1,4 +1,5 @@
 // Reading a plunge file: its first fault in reading order, or its head and the number of its plunges.
+#![tactic(auto)]
 ghost use Rattle.std.specs.Prelude.{◌≡◌, suc, ◌+◌, ◌≤◌, ◌<◌, length};
 ghost use Rattle.refusal.specs.declared.Verdict.TheVariants.{Accepted};
 ghost use Rattle.refusal.specs.Refusals.{largest_side, first_met};
@@ -12,28 +13,28 @@ use geometry::{Head, MaybeReach, Plunge, Reach, Size};
 use refusal::{Refusal, Verdict};
 
 // What a readable file says: its plate, and how many plunges follow.
-#[derive(Drop)]
+#[derive(Clone, Copy)]
 pub struct Job {
     pub head: Head,
     pub plunges: usize,
 }
 
 // What reading gives: what the file says, or its first fault.
-#[derive(Drop)]
+#[derive(Clone, Copy)]
 pub enum ReadAnswer {
     Readable(Job),
     Unreadable(Refusal),
 }
 
 // The plunge of a field, if its reach is one.
-#[derive(Drop)]
+#[derive(Clone, Copy)]
 pub enum MaybePlunge {
     OfPlunge(Plunge),
     NoPlunge,
 }
 
 // What a field after the head tells: a plunge that is right, the right end, or a fault.
-#[derive(Drop)]
+#[derive(Clone, Copy)]
 pub enum Step {
     Onward,
     Ended,

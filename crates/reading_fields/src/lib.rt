@@ -1,4 +1,5 @@
 // The opening of a field, and the end field: read, with their refusals.
+#![tactic(auto)]
 ghost use Rattle.std.specs.Prelude.{◌≡◌, [], ◌∷◌, ◌+◌, ◌≤◌, ltb, length};
 ghost use Rattle.refusal.specs.Refusals.{trial, first_met};
 ghost use Rattle.fields.specs.Fields.{opening, end_bytes};
@@ -11,7 +12,7 @@ use refusal::Verdict;
 // ---- the opening of a field
 
 // How a field begins: its tag, and the length of its content.
-#[derive(Drop)]
+#[derive(Clone, Copy)]
 pub struct Opening {
     pub tag: u8,
     pub size: u16,

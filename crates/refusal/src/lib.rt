@@ -1,18 +1,19 @@
 // Refusals, and the checks of arguments that every call makes, in document 01's order.
+#![tactic(auto)]
 ghost use Rattle.std.specs.Prelude.{◌≡◌, [], ◌∷◌};
 ghost use Rattle.refusal.specs.Refusals.{is_side, bad_sides, is_erosion_number, head_of, first_met, side_trials, map_trials};
 
 use geometry::{Head, Kind, MaybeKind};
 
 // A number of document 01's table, and a place.
-#[derive(Drop)]
+#[derive(Clone, Copy)]
 pub struct Refusal {
     pub number: u8,
     pub place: usize,
 }
 
 // What a call says of its arguments and buffers.
-#[derive(Drop)]
+#[derive(Clone, Copy)]
 pub enum Verdict {
     Accepted,
     Refused(Refusal),

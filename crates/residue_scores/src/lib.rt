@@ -1,4 +1,5 @@
 // The residue of two erosions, joined to a score at each cell: of any map row by row, and of a map with a margin in one run.
+#![tactic(auto)]
 ghost use Rattle.std.specs.Prelude.{◌≡◌, ◌+◌, ◌-◌, ◌*◌, ◌≤◌, ◌<◌, length, get_or};
 ghost use Rattle.window.specs.Windows.{window_max};
 ghost use Rattle.window.specs.Places.{window_in};
@@ -9,7 +10,7 @@ ghost use Rattle.residue_scores.specs.Residues.{ScoreBuffers, ScoreStep, joined_
 use geometry::{Head, Kind};
 
 // The two scores of a cell: its largest residue, and the sum of its residues.
-#[derive(Drop)]
+#[derive(Clone, Copy)]
 pub enum Score {
     Largest,
     Sum,

@@ -1,5 +1,6 @@
 // The residues of a relief one after the other, in runs of places: a run is marked where its residue is above 0, while the erosion after next
 // is written over the erosion before, in two buffers.
+#![tactic(auto)]
 ghost use Rattle.std.specs.Prelude.{List, ℕ, ◌≤◌, length};
 ghost use Rattle.geometry.specs.Plate.{area};
 ghost use Rattle.residue_series.specs.Stands.{Due, Tops, PairMidway, Level, RunEnd, PairToSweep, PairSweep, LastResidue};
@@ -10,7 +11,7 @@ use residue_sweep::{Places, Swept};
 
 // Where a series stands: the last residue that it takes; the erosion whose residue is taken, and a number no lower than any of it, 0 where it
 // is bare; the next place, and such a number of the next erosion before that place; whether some places are left.
-#[derive(Drop)]
+#[derive(Clone, Copy)]
 pub struct Stand {
     pub limit: usize,
     pub number: usize,
@@ -21,7 +22,7 @@ pub struct Stand {
 }
 
 // Some places of a residue, a number no lower than any of their marks, and where the series stands after them.
-#[derive(Drop)]
+#[derive(Clone, Copy)]
 pub struct Run {
     pub places: Places,
     pub deepest: u8,

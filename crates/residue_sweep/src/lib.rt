@@ -1,5 +1,6 @@
 // Sweeps over places of two erosions, one after the other: each place with a residue above 0 is marked with its depth, and the erosion after
 // both is written over the first.
+#![tactic(auto)]
 ghost use Rattle.buffers.specs.Margin.{Margin};
 ghost use Rattle.residue_sweep.specs.Sweeps.{RunBuffers, EdgeBuffers, SweepBuffers, low_in, high_in, low_near, high_near, high_beside, Sweep};
 
@@ -10,14 +11,14 @@ use residue_marks::MARK_PLACES;
 pub const RUN: usize = 1920;
 
 // Places of a flat map, one after the other.
-#[derive(Drop)]
+#[derive(Clone, Copy)]
 pub struct Places {
     pub start: usize,
     pub number: usize,
 }
 
 // What a sweep found: a number no lower than any of its marks, and one no lower than any number that it wrote, 0 if all of these are.
-#[derive(Drop)]
+#[derive(Clone, Copy)]
 pub struct Swept {
     pub deepest: u8,
     pub top: u8,

@@ -1,4 +1,5 @@
 // Rows of a plate in arrays: loaded from a map, propagated along themselves, joined with the row beside, stored.
+#![tactic(auto)]
 ghost use Rattle.std.specs.Prelude.{◌≡◌, cond, ◌+◌, ◌-◌, ◌*◌, ◌≤◌, ◌<◌, max, eqb, length, get_or};
 ghost use Rattle.buffers.specs.Fill.{Filled};
 ghost use Rattle.row_arrays.specs.Rows.{margin, row_places, widest_row, row_reach, Row, propagated_at, Widened, highest_beside, joined_row, Merged};
@@ -8,7 +9,7 @@ ghost use Rattle.row_arrays.specs.Asked.{Loadable, RowPair, Mergeable};
 use geometry::{Head, Kind};
 
 // What the transform starts from: a wall at every cell below a level, those off the plate too, or a map's own numbers.
-#[derive(Drop)]
+#[derive(Clone, Copy)]
 pub enum Seeds {
     Walls(u8),
     Numbers,

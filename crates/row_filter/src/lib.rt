@@ -1,4 +1,5 @@
 // A pass over a map in place, row by row, from three rows in arrays: each number becomes what is made of its window.
+#![tactic(auto)]
 ghost use Rattle.std.specs.Prelude.{◌≡◌, ◌+◌, ◌-◌, ◌*◌, ◌≤◌, ◌<◌, length};
 ghost use Rattle.window.specs.Windows.{window_of};
 ghost use Rattle.refusal.specs.Refusals.{largest_side};
@@ -10,7 +11,7 @@ use geometry::{Head, Kind};
 use row_arrays::{MARGIN, ROW_PLACES, Seeds};
 
 // What is made of a window: its middle number where none is larger, else 0; or its highest number.
-#[derive(Drop)]
+#[derive(Clone, Copy)]
 pub enum Leaf {
     Axis,
     Highest,

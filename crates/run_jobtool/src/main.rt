@@ -1,4 +1,5 @@
 // The program jobtool as the gate runs it: the same function, with its buffers on the stack and no status.
+#![tactic(auto)]
 const FILE: usize = 65536;
 
 const CELLS: usize = (refusal::LARGEST_SIDE as usize) * (refusal::LARGEST_SIDE as usize);

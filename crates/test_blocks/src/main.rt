@@ -1,4 +1,5 @@
 // Document 01's blocks to try that are not marked M, and the worked example of `plunges`: makes each call and prints what comes back.
+#![tactic(auto)]
 ghost use Rattle.std.specs.Prelude.{◌≡◌, length};
 
 use libc::STDOUT_FILENO;
@@ -17,7 +18,7 @@ const LONG: usize = 204000;
 // Files of up to this many bytes are printed as text; of a longer one two sums.
 const TEXT: usize = 16384;
 
-#[derive(Drop)]
+#[derive(Clone, Copy)]
 struct Plate {
     kind: u8,
     width: u16,

@@ -1,4 +1,5 @@
 // Runs the calls on plunge files as records describe them, and prints what comes back.
+#![tactic(auto)]
 use job_check::check;
 use jobs::{draw, list, tidy};
 use libc::STDIN_FILENO;
@@ -29,7 +30,7 @@ const REPEAT: u8 = 7;
 
 // A test case of the calls on files: a call with its arguments, the relief's pattern, and the length of each buffer. A file
 // stands in the record itself.
-#[derive(Drop)]
+#[derive(Clone, Copy)]
 struct Record {
     op: u8,
     kind: u8,

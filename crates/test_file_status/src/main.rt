@@ -1,4 +1,5 @@
 // Asks for names whose answers are the same on every Linux system, and prints what file_status says of them.
+#![tactic(auto)]
 use file_status::{is_writable, link_target, status_of};
 use libc::STDOUT_FILENO;
 

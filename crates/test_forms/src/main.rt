@@ -1,4 +1,5 @@
 // What plunges tell of themselves: `covers` of every cell and `inside` of every pair in a small universe, for both kinds.
+#![tactic(auto)]
 use geometry::{Kind, Plunge, Reach};
 use test_io::{print_next, print_text};
 
@@ -56,7 +57,7 @@ fn print_balls(kind: Kind) {
 // ---- plunges that lie inside another
 
 // How many they are, and the sum of their numbers, counted from 1.
-#[derive(Drop)]
+#[derive(Clone, Copy)]
 struct Tally {
     count: u32,
     sum: u32,

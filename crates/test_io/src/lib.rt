@@ -1,4 +1,5 @@
 // What the test programs share: numbers out of bytes, parts of buffers, patterns of reliefs, printing.
+#![tactic(auto)]
 ghost use Rattle.std.specs.Prelude.{◌≤◌, length};
 ghost use Rattle.io.specs.Counts.{IsPrefixLen};
 
@@ -180,7 +181,7 @@ fn weighted(b: u8, i: usize) -> usize
 }
 
 // The sum of the bytes, and of the bytes times their weights.
-#[derive(Drop)]
+#[derive(Clone, Copy)]
 struct Sums {
     plain: usize,
     weighted: usize,

@@ -1,4 +1,5 @@
 // Runs every map call on plates and buffers that records describe, and prints what comes back.
+#![tactic(auto)]
 use clearance_cell::CellAnswer;
 use erosion_maps::VolumeAnswer;
 use libc::STDIN_FILENO;
@@ -12,7 +13,7 @@ use test_records::{CELLS_ROOM, cells_room, size_of};
 const FIXED: usize = 19;
 
 // A test case of the map calls: a call with its arguments, the relief's pattern, and the length of each buffer.
-#[derive(Drop)]
+#[derive(Clone, Copy)]
 struct Record {
     op: u8,
     kind: u8,

@@ -1,4 +1,5 @@
 // Every map call on blocks, small plates and refused arguments.
+#![tactic(auto)]
 fn main() {
     test_map_records::run_input();
 }

@@ -1,4 +1,5 @@
 // Runs the motion call on files, plunge numbers and scales that its input describes, and prints what comes back, floats to the last bit.
+#![tactic(auto)]
 ghost use Rattle.std.specs.Prelude.{◌≡◌, ◌≤◌};
 ghost use Rattle.std.specs.Float.{binary64};
 ghost use Rattle.std.specs.Float.Ieee.{nan_bits};

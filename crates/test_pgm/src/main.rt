@@ -1,4 +1,5 @@
 // Runs the calls of `pgm`, `pgm_copies` and `pgm_sentences` on the records of its input, and prints each answer, what it left of the output, and the sentence of a fault.
+#![tactic(auto)]
 ghost use Rattle.std.specs.Prelude.{◌≤◌};
 
 use libc::STDIN_FILENO;

@@ -1,4 +1,5 @@
 // Runs the whole work of the program `plunges` on scans that its input describes, and prints the text of each: of a long one its length and two sums.
+#![tactic(auto)]
 ghost use Rattle.std.specs.Prelude.{◌≤◌};
 
 use libc::STDIN_FILENO;

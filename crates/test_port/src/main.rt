@@ -1,5 +1,6 @@
 // Drives the press port by what its input describes, and prints what comes back: inputs one by one, inputs at every
 // status, long runs, and traces.
+#![tactic(auto)]
 ghost use Rattle.std.specs.Prelude.{◌≤◌};
 
 use libc::STDIN_FILENO;
@@ -37,7 +38,7 @@ const LINE: usize = 32;
 // A test case: what it asks for, whether a fresh port is taken (0) or the bytes given, the first index or event or a
 // seed or an output's length, how many indices, events, inputs or bytes of a trace there are, and how many inputs of a
 // run lie between bytes that are printed.
-#[derive(Drop)]
+#[derive(Clone, Copy)]
 struct Record {
     call: u8,
     given: u8,
@@ -233,7 +234,7 @@ fn run_steps(first: Port, s: &[u8]) {
 // ---- inputs at every status
 
 // How many inputs were accepted, and refused with each number; how many refusals changed a byte; a sum of all answers.
-#[derive(Drop)]
+#[derive(Clone, Copy)]
 struct Tally {
     accepted: u32,
     refused_16: u32,
@@ -383,7 +384,7 @@ fn run_events(port: Port, first: u64, count: u32) {
 // ---- long runs
 
 // A run so far: the port, the generator's state, how many events "done" were accepted, and the sum of all answers.
-#[derive(Drop)]
+#[derive(Clone, Copy)]
 struct Run {
     port: Port,
     state: u32,

@@ -1,4 +1,5 @@
 // Runs the text of a job's figures on the files that its input holds, and prints it; of an unreadable file the refusal.
+#![tactic(auto)]
 ghost use Rattle.std.specs.Prelude.{◌≤◌};
 ghost use Rattle.reading.specs.Steps.{JobOf};
 

@@ -1,4 +1,5 @@
 // Runs the calls on sink tables, and the motion call by tables of any numbers, on what its input describes, and prints what comes back.
+#![tactic(auto)]
 use libc::STDIN_FILENO;
 use motion_floats::Scale;
 use refusal::Verdict;
@@ -23,7 +24,7 @@ const MOTIONS: u8 = 3;
 
 // A test case: a call, how the field is filled and its length, the output's length, the step of a table that is loaded before (0: none),
 // half a pitch, the number of a plunge, how many patches follow, and how many bytes the file has.
-#[derive(Drop)]
+#[derive(Clone, Copy)]
 struct Record {
     call: u8,
     pattern: u8,

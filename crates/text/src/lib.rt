@@ -1,4 +1,5 @@
 // Document 01's text of a list, a line for the plate, one for each plunge and the total, and of a refusal; put into slices.
+#![tactic(auto)]
 ghost use Rattle.std.specs.Prelude.{◌+◌, ◌≤◌, length};
 ghost use Rattle.io.specs.Counts.{IsPrefixLen};
 ghost use Rattle.numerals.specs.Numerals.{Puts};
@@ -12,7 +13,7 @@ use reading::Job;
 pub const LINE: usize = 32;
 
 // How much of a page is used, and which part of the text comes next.
-#[derive(Drop)]
+#[derive(Clone, Copy)]
 pub struct Page {
     pub used: usize,
     pub next: usize,

@@ -1,4 +1,5 @@
 // What a command makes of its input: bytes, a text, or a refusal.
+#![tactic(auto)]
 ghost use Rattle.std.specs.Prelude.{◌≤◌, length};
 ghost use Rattle.reading.specs.Steps.{JobOf};
 
@@ -12,7 +13,7 @@ use refusal::{Refusal, Verdict};
 use tool_words::Command;
 
 // An answer, with its length where it is bytes, or a list's file, or a refusal, or what is wrong with a picture.
-#[derive(Drop)]
+#[derive(Clone, Copy)]
 pub enum Outcome {
     Done(usize),
     Listed(Extent),

@@ -6,7 +6,7 @@ use file_status::FileStatus;
 use libc::STDOUT_FILENO;
 
 // How an output is ended: not at all, closed, or put in its place.
-#[derive(Drop)]
+#[derive(Clone, Copy)]
 pub enum Sort {
     Standard,
     InPlace,
@@ -14,7 +14,7 @@ pub enum Sort {
 }
 
 // An output that is open (or not: fd is then -1, and the reason was said): the lengths of its name and of the new file's.
-#[derive(Drop)]
+#[derive(Clone, Copy)]
 pub struct Output {
     pub fd: i32,
     pub sort: Sort,
@@ -43,7 +43,7 @@ fn is_replaceable(name: &[u8], status: FileStatus, about: &[u8]) -> bool {
 }
 
 // A new file's descriptor, and the length of its name.
-#[derive(Drop)]
+#[derive(Clone, Copy)]
 struct Part {
     fd: i32,
     length: usize,

@@ -1,4 +1,5 @@
 // The words behind the program's name: a command, options with their values, plain words.
+#![tactic(auto)]
 pub mod scales;
 
 ghost use Rattle.std.specs.Prelude.{◌≤◌, ◌<◌};
@@ -6,7 +7,7 @@ ghost use Rattle.std.specs.Prelude.{◌≤◌, ◌<◌};
 use libc::STDIN_FILENO;
 
 // What to do; its word is the first.
-#[derive(Drop)]
+#[derive(Clone, Copy)]
 pub enum Command {
     List,
     Draw,
@@ -25,7 +26,7 @@ pub enum Command {
 }
 
 // What a word behind the command is.
-#[derive(Drop)]
+#[derive(Clone, Copy)]
 enum Word {
     Output,
     Kind,
@@ -37,7 +38,7 @@ enum Word {
 
 // The numbers of the words that name the output, the kind and the sink table and that ask for the rungs climbed, 0 where there is none; and
 // whether an option is wrong.
-#[derive(Drop)]
+#[derive(Clone, Copy)]
 pub struct Options {
     pub output: usize,
     pub kind: usize,

@@ -4,13 +4,13 @@ use decimal::Decimal;
 use motion_floats::Scale;
 
 // A scale, and whether it could be read.
-#[derive(Drop)]
+#[derive(Clone, Copy)]
 pub struct Given {
     pub scale: Scale,
     pub ok: bool,
 }
 
-#[derive(Drop)]
+#[derive(Clone, Copy)]
 struct Number {
     value: f64,
     ok: bool,

@@ -1,0 +1,16 @@
+-- `crop` moves row after row: the invariant is that the rows before the one reached are cropped, and all that lies past them is as it was.
+use mathlib.Core.Path.{◌≡◌, refl, ◌∙◌}
+use Prim.Native.Nat.{◌-◌, ◌≤◌}
+use native.Mathlib.Omega.{arith}
+use lib.ListN.{length}
+use Rattle.refusal.specs.Refusals.{largest_side}
+use Rattle.bounding_box.specs.Boxes.{CroppedRows}
+use Rattle.bounding_box.proofs.Boxing.{room, copied_none, copied-end, cropped-more, cropped-whole}
+use Rattle.bounding_box.proofs.crop.Given as goal
+
+abbrev pub invariant-loop-y : goal.invariant-loop-y
+invariant-loop-y l = (l.y ≤ l.height) × (length l.line ≡ largest_side)
+    × CroppedRows l.width (record { column = l.left; row = l.top; width = l.count; height = l.height }) l.y l.initial.map l.map
+
+abbrev pub decreases-loop-y : goal.decreases-loop-y
+decreases-loop-y l = l.height - l.y

@@ -1,0 +1,16 @@
+use mathlib.Core.Path.{refl}
+use Prim.Native.Nat.{◌+◌, ◌-◌, ◌≤◌}
+use native.Mathlib.Omega.{arith}
+use lib.ListN.{get_or}
+use Rattle.buffers.specs.Fill.{Filled}
+use Rattle.buffers.proofs.Fill.{filled_none, filled_more, filled-end}
+use Rattle.bounding_box.proofs.load_line.Goals as goal
+
+pub loop-n-init : goal.loop-n-init
+loop-n-init c = (omega arith, filled_none _ _ _)
+
+pub loop-n-preserved : goal.loop-n-preserved
+loop-n-preserved c = (omega arith, filled_more _ _ _ _ _ _ c.loop-n.invariant.1 (omega arith) (omega arith) refl)
+
+pub returns : goal.returns
+returns c = filled-end _ _ _ _ _ _ c.loop-n.invariant.0 c.loop-n-test.false c.loop-n.invariant.1

@@ -1,0 +1,14 @@
+-- `store_line` fills with the array's bytes: the invariant is `Filled` up to the place reached.
+use mathlib.Core.Path.{refl}
+use Prim.Native.Nat.{◌+◌, ◌-◌, ◌≤◌}
+use native.Mathlib.Omega.{arith}
+use lib.ListN.{get_or}
+use Rattle.buffers.specs.Fill.{Filled}
+use Rattle.buffers.proofs.Fill.{filled_none, filled_more, filled-end}
+use Rattle.bounding_box.proofs.store_line.Given as goal
+
+abbrev pub invariant-loop-n : goal.invariant-loop-n
+invariant-loop-n l = (l.to ≤ l.n) × (l.n ≤ l.to + l.count) × Filled (λ n. get_or l.line (n - l.to) 0) l.to l.n l.initial.map l.map
+
+abbrev pub decreases-loop-n : goal.decreases-loop-n
+decreases-loop-n l = l.to + l.count - l.n

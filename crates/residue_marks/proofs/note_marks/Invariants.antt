@@ -1,0 +1,13 @@
+-- `note_marks` goes from block to block, then over the rest: the invariant is `Noted` up to the place reached.
+use mathlib.Core.Path.{◌∙◌}
+use Prim.Native.Nat.{◌-◌, ◌≤◌}
+use native.Mathlib.Omega.{arith}
+use Rattle.residue_marks.specs.Marks.{Noted}
+use Rattle.residue_marks.proofs.Marking.{noted-none, noted-on}
+use Rattle.residue_marks.proofs.note_marks.Given as goal
+
+abbrev pub invariant-loop-i : goal.invariant-loop-i
+invariant-loop-i l = (l.i ≤ l.number) × Noted l.marks 0 l.i 0 l.initial.noted l.count l.noted
+
+abbrev pub decreases-loop-i : goal.decreases-loop-i
+decreases-loop-i l = l.number - l.i

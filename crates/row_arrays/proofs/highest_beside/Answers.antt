@@ -1,0 +1,12 @@
+-- `highest_beside` is `highest_beside`, by kind.
+use mathlib.Core.Path.{ap, ◌∙◌}
+use Prim.Native.Nat.{max}
+use borrow.Author.Rules.{rules}
+use Rattle.row_arrays.proofs.highest_beside.Goals as goal
+
+pub returns-in-Diamond : goal.returns-in-Diamond
+returns-in-Diamond c = rw c.in-Diamond.is
+
+pub returns-in-Square : goal.returns-in-Square
+returns-in-Square c =
+    rw c.in-Square.is (c.higher-in-Square.ensures ∙ ap (max _) c.higher.ensures)

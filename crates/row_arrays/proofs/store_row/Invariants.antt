@@ -1,0 +1,15 @@
+-- `store_row` fills a stretch of the map with the row: the invariant is `Filled` up to the place reached.
+use mathlib.Core.Path.{refl}
+use Prim.Native.Nat.{◌+◌, ◌-◌, ◌≤◌}
+use native.Mathlib.Omega.{arith}
+use lib.ListN.{get_or}
+use Rattle.buffers.specs.Fill.{Filled}
+use Rattle.buffers.proofs.Fill.{filled_none, filled_more, filled-end}
+use Rattle.row_arrays.specs.Rows.{margin}
+use Rattle.row_arrays.proofs.store_row.Given as goal
+
+abbrev pub invariant-loop-n : goal.invariant-loop-n
+invariant-loop-n l = (l.from ≤ l.n) × (l.n ≤ l.from + l.width) × Filled (λ n. get_or l.row (margin + (n - l.from)) 0) l.from l.n l.initial.out l.out
+
+abbrev pub decreases-loop-n : goal.decreases-loop-n
+decreases-loop-n l = l.from + l.width - l.n

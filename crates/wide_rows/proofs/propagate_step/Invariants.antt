@@ -1,0 +1,15 @@
+-- `propagate_step` fills with the highest of three places a step apart: the invariant is `Filled` up to the place reached.
+use mathlib.Core.Path.{ap, ap₂, ◌∙◌}
+use Prim.Native.Nat.{◌+◌, ◌-◌, ◌≤◌, max}
+use native.Mathlib.Omega.{arith}
+use borrow.Author.Rules.{rules}
+use Rattle.buffers.specs.Fill.{Filled}
+use Rattle.buffers.proofs.Fill.{filled_none, filled_more, filled-end}
+use Rattle.row_arrays.specs.Rows.{margin, propagated_at}
+use Rattle.wide_rows.proofs.propagate_step.Given as goal
+
+abbrev pub invariant-loop-n : goal.invariant-loop-n
+invariant-loop-n l = (margin ≤ l.n) × (l.n ≤ margin + l.width) × Filled (propagated_at l.src l.step) margin l.n l.initial.dst l.dst
+
+abbrev pub decreases-loop-n : goal.decreases-loop-n
+decreases-loop-n l = margin + l.width - l.n
