@@ -1,6 +1,7 @@
 // The smallest box of a plate outside of which a map is 0; a box copied to another map, a map cropped to a box in place, and a box spread out
 // over its plate in place.
 #![tactic(auto)]
+
 ghost use Rattle.std.specs.Prelude.{◌≡◌, ◌+◌, ◌-◌, ◌≤◌, length, get_or};
 ghost use Rattle.geometry.specs.Plate.{area};
 ghost use Rattle.refusal.specs.Refusals.{largest_side};

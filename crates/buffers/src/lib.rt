@@ -1,5 +1,6 @@
 // Filling and copying stretches of a buffer.
 #![tactic(auto)]
+
 ghost use Rattle.std.specs.Prelude.{◌≤◌, length, get_or};
 ghost use Rattle.buffers.specs.Fill.{Filled};
 

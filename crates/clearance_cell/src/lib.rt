@@ -1,5 +1,6 @@
 // The clearance of one cell: rows are searched outwards from the cell's, no further than the nearest wall found so far.
 #![tactic(auto)]
+
 ghost use Rattle.std.specs.Prelude.{◌≡◌, ◌+◌, ◌≤◌, ◌<◌, length};
 ghost use Rattle.geometry.specs.Plane.{cell};
 ghost use Rattle.theory.specs.Levels.{clearance};

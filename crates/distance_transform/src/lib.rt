@@ -1,6 +1,7 @@
 // The transform that clearance and reconstruction share: at each cell the highest of all cells' numbers less their distance.
 // Linear in the cells: each row along itself, then down from the row above, then up from the row below.
 #![tactic(auto)]
+
 ghost use Rattle.std.specs.Prelude.{◌≡◌, ◌≤◌, length, get_or};
 ghost use Rattle.geometry.specs.Plate.{area};
 ghost use Rattle.buffers.specs.Fill.{Filled, Mapped};

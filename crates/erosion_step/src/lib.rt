@@ -1,5 +1,6 @@
 // One erosion step (document 01's next rung) from one buffer to another: the first of any map, and the later ones, inside the border.
 #![tactic(auto)]
+
 ghost use Rattle.std.specs.Prelude.{◌*◌, ◌≤◌, length};
 ghost use Rattle.geometry.specs.Plate.{area};
 ghost use Rattle.buffers.specs.Runs.{Interior};

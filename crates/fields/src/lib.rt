@@ -1,6 +1,7 @@
 // The bytes of a plunge file: the one home of tags, lengths and places, and the fields, written one by one, by the size of the plate.
 // Each function that writes leaves all other bytes as they were.
 #![tactic(auto)]
+
 ghost use Rattle.std.specs.Prelude.{◌≡◌, ◌+◌, ◌≤◌, length};
 ghost use Rattle.geometry.specs.declared.Size.TheVariants.{Small, Large};
 ghost use Rattle.geometry.specs.Sizes.{size_of};

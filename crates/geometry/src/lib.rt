@@ -1,5 +1,6 @@
 // Kinds, heads, reaches and plunges: the forms that document 01 names, each with its whole meaning in its contract.
 #![tactic(auto)]
+
 ghost use Rattle.std.specs.Prelude.{◌≡◌, max, pos};
 ghost use Rattle.geometry.specs.Plane.{cell, gap, dist};
 ghost use Rattle.geometry.specs.Forms.{kind_byte, kind_of, reach_of, reach_of_clearance};

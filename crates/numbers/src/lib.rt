@@ -1,5 +1,6 @@
 // The few functions on numbers that several layers use.
 #![tactic(auto)]
+
 ghost use Rattle.std.specs.Prelude.{◌≡◌, ◌+◌, ◌*◌, ◌/◌, ◌%◌, min, max};
 
 // The smaller of two numbers.

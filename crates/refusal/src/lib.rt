@@ -1,5 +1,6 @@
 // Refusals, and the checks of arguments that every call makes, in document 01's order.
 #![tactic(auto)]
+
 ghost use Rattle.std.specs.Prelude.{◌≡◌, [], ◌∷◌};
 ghost use Rattle.refusal.specs.Refusals.{is_side, bad_sides, is_erosion_number, head_of, first_met, side_trials, map_trials};
 

@@ -1,5 +1,6 @@
 // Marks of the places of a run, each a depth where the residue is above 0: how a place is marked, how many marks there are, and where.
 #![tactic(auto)]
+
 ghost use Rattle.std.specs.Prelude.{◌≡◌, ◌+◌, ◌≤◌, length};
 ghost use Rattle.buffers.specs.Runs.{ZeroRun};
 ghost use Rattle.residue_marks.specs.Marks.{mark_places, block, mark_of, counted, CountRun, tally, NotePlaces, Noted};

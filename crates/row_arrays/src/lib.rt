@@ -1,5 +1,6 @@
 // Rows of a plate in arrays: loaded from a map, propagated along themselves, joined with the row beside, stored.
 #![tactic(auto)]
+
 ghost use Rattle.std.specs.Prelude.{◌≡◌, cond, ◌+◌, ◌-◌, ◌*◌, ◌≤◌, ◌<◌, max, eqb, length, get_or};
 ghost use Rattle.buffers.specs.Fill.{Filled};
 ghost use Rattle.row_arrays.specs.Rows.{margin, row_places, widest_row, row_reach, Row, propagated_at, Widened, highest_beside, joined_row, Merged};

@@ -1,5 +1,6 @@
 // A pass over a map in place, row by row, from three rows in arrays: each number becomes what is made of its window.
 #![tactic(auto)]
+
 ghost use Rattle.std.specs.Prelude.{◌≡◌, ◌+◌, ◌-◌, ◌*◌, ◌≤◌, ◌<◌, length};
 ghost use Rattle.window.specs.Windows.{window_of};
 ghost use Rattle.refusal.specs.Refusals.{largest_side};

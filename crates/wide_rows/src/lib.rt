@@ -1,5 +1,6 @@
 // Rows of a plate in arrays of 16-bit numbers, as `row_arrays` has them in bytes; their maps have two bytes a number, high byte first.
 #![tactic(auto)]
+
 ghost use Rattle.std.specs.Prelude.{◌≡◌, cond, ◌+◌, ◌-◌, ◌*◌, ◌≤◌, ◌<◌, max, eqb, length, get_or};
 ghost use Rattle.buffers.specs.Fill.{Filled};
 ghost use Rattle.row_arrays.specs.Rows.{margin, row_places, widest_row, Margins, Row, propagated_at, Widened, highest_beside, joined_row};

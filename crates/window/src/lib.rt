@@ -1,5 +1,6 @@
 // A cell's window, three rows of three numbers of a map by value, and the leaves that take its lowest and highest for either kind.
 #![tactic(auto)]
+
 ghost use Rattle.std.specs.Prelude.{◌≡◌, true, [], ◌∷◌, ◌+◌, ◌-◌, ◌<◌, ◌≤◌, min, max, length, get_or};
 ghost use Rattle.geometry.specs.Plane.{cell};
 ghost use Rattle.geometry.specs.Plate.{at};

@@ -1,8 +1,6 @@
-use Prim.Native.Nat.{◌-◌, ◌≤◌}
 use native.Mathlib.Omega.{arith}
 use Rattle.buffers.proofs.Rooms.{row_room}
-use Rattle.bounding_box.specs.Boxes.{CopiedRows}
-use Rattle.bounding_box.proofs.Boxing.{room, whole_room, copied_none, copied_more, copied-end, copied-whole}
+use Rattle.bounding_box.proofs.Boxing.{room, whole_room, copied_none, copied_more, copied-end}
 use Rattle.bounding_box.proofs.copy_box.Goals as goal
 
 pub overflow_mul-top : goal.overflow_mul-top
@@ -38,11 +36,10 @@ overflow_mul-y-in-loop-y c =
     omega (arith, row_room _ _ _ _ c.loop-y-test.true c.requires.room)
 
 pub copy_line-requires-in-loop-y : goal.copy_line-requires-in-loop-y
-copy_line-requires-in-loop-y c =
-    (
-      omega (arith, (room _ _ _ c.requires.box _ c.loop-y-test.true).source),
-      omega (arith, row_room _ _ _ _ c.loop-y-test.true c.requires.room, c.loop-y.invariant.1.same),
-    )
+copy_line-requires-in-loop-y c = (
+  omega (arith, (room _ _ _ c.requires.box _ c.loop-y-test.true).source),
+  omega (arith, row_room _ _ _ _ c.loop-y-test.true c.requires.room, c.loop-y.invariant.1.same),
+)
 
 pub overflow_add-y-in-loop-y-2 : goal.overflow_add-y-in-loop-y-2
 overflow_add-y-in-loop-y-2 c =

@@ -1,9 +1,6 @@
 -- `copy_box` copies rows of the whole width at once, else row after row: the invariant is that the rows before the one reached are copied.
 use Prim.Native.Nat.{◌-◌, ◌≤◌}
-use native.Mathlib.Omega.{arith}
-use Rattle.buffers.proofs.Rooms.{row_room}
 use Rattle.bounding_box.specs.Boxes.{CopiedRows}
-use Rattle.bounding_box.proofs.Boxing.{room, whole_room, copied_none, copied_more, copied-end, copied-whole}
 use Rattle.bounding_box.proofs.copy_box.Given as goal
 
 abbrev pub invariant-loop-y : goal.invariant-loop-y

@@ -1,10 +1,7 @@
 -- `copy_line` fills with the other map's bytes: the invariant is `Filled` up to the place reached.
-use mathlib.Core.Path.{refl}
 use Prim.Native.Nat.{◌+◌, ◌-◌, ◌≤◌}
-use native.Mathlib.Omega.{arith}
 use lib.ListN.{get_or}
 use Rattle.buffers.specs.Fill.{Filled}
-use Rattle.buffers.proofs.Fill.{filled_none, filled_more, filled-end}
 use Rattle.bounding_box.proofs.copy_line.Given as goal
 
 abbrev pub invariant-loop-n : goal.invariant-loop-n

@@ -1,11 +1,9 @@
 -- `crop` moves row after row: the invariant is that the rows before the one reached are cropped, and all that lies past them is as it was.
-use mathlib.Core.Path.{◌≡◌, refl, ◌∙◌}
+use mathlib.Core.Path.{◌≡◌}
 use Prim.Native.Nat.{◌-◌, ◌≤◌}
-use native.Mathlib.Omega.{arith}
 use lib.ListN.{length}
 use Rattle.refusal.specs.Refusals.{largest_side}
 use Rattle.bounding_box.specs.Boxes.{CroppedRows}
-use Rattle.bounding_box.proofs.Boxing.{room, copied_none, copied-end, cropped-more, cropped-whole}
 use Rattle.bounding_box.proofs.crop.Given as goal
 
 abbrev pub invariant-loop-y : goal.invariant-loop-y

@@ -1,6 +1,4 @@
-use Prim.Native.Nat.{◌≤◌}
 use native.Mathlib.Omega.{arith}
-use Rattle.buffers.specs.Runs.{ZeroRun}
 use Rattle.buffers.proofs.Zeros.{zeros-none, zeros-before, zeros-in}
 use Rattle.bounding_box.proofs.end_set.Goals as goal
 

@@ -1,8 +1,6 @@
 -- `end_set` goes back from the end: the invariant is that no number from the place reached on is above 0.
 use Prim.Native.Nat.{◌≤◌}
-use native.Mathlib.Omega.{arith}
 use Rattle.buffers.specs.Runs.{ZeroRun}
-use Rattle.buffers.proofs.Zeros.{zeros-none, zeros-before, zeros-in}
 use Rattle.bounding_box.proofs.end_set.Given as goal
 
 abbrev pub invariant-loop-end : goal.invariant-loop-end

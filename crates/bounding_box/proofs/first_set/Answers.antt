@@ -1,6 +1,4 @@
-use Prim.Native.Nat.{◌-◌, ◌≤◌}
 use native.Mathlib.Omega.{arith}
-use Rattle.buffers.specs.Runs.{ZeroRun}
 use Rattle.buffers.proofs.Zeros.{zeros-none, zeros-more, zeros-in}
 use Rattle.bounding_box.proofs.first_set.Goals as goal
 

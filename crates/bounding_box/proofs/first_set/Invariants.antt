@@ -1,8 +1,6 @@
 -- `first_set` looks at place after place: the invariant is that no number before the place reached is above 0.
 use Prim.Native.Nat.{◌-◌, ◌≤◌}
-use native.Mathlib.Omega.{arith}
 use Rattle.buffers.specs.Runs.{ZeroRun}
-use Rattle.buffers.proofs.Zeros.{zeros-none, zeros-more, zeros-in}
 use Rattle.bounding_box.proofs.first_set.Given as goal
 
 abbrev pub invariant-loop-first : goal.invariant-loop-first

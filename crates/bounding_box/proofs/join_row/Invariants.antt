@@ -1,9 +1,6 @@
 -- `join_row` joins column after column: the invariant is `Joined` up to the column reached.
 use Prim.Native.Nat.{◌-◌, ◌≤◌}
-use native.Mathlib.Omega.{arith}
-use borrow.Author.Rules.{rules}
 use Rattle.bounding_box.specs.Boxes.{Joined}
-use Rattle.bounding_box.proofs.Boxing.{joined-none, joined-more, joined_end}
 use Rattle.bounding_box.proofs.join_row.Given as goal
 
 abbrev pub invariant-loop-x : goal.invariant-loop-x

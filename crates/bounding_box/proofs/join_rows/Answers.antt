@@ -1,11 +1,7 @@
-use mathlib.Core.Path.{◌≡◌, ◌∙◌}
-use Prim.Native.Nat.{◌-◌, ◌≤◌}
+use mathlib.Core.Path.{◌∙◌}
 use native.Mathlib.Omega.{arith}
-use borrow.Author.Rules.{rules}
-use lib.ListN.{length, length-set}
-use Rattle.refusal.specs.Refusals.{largest_side}
+use lib.ListN.{length-set}
 use Rattle.buffers.proofs.Rooms.{row_room}
-use Rattle.bounding_box.specs.Boxes.{Topped}
 use Rattle.bounding_box.proofs.Boxing.{topped-none, topped-more, topped-end}
 use Rattle.bounding_box.proofs.join_rows.Goals as goal
 

@@ -1,13 +1,9 @@
 -- `join_rows` joins row after row: the invariant is `Topped` up to the row reached.
-use mathlib.Core.Path.{◌≡◌, ◌∙◌}
+use mathlib.Core.Path.{◌≡◌}
 use Prim.Native.Nat.{◌-◌, ◌≤◌}
-use native.Mathlib.Omega.{arith}
-use borrow.Author.Rules.{rules}
-use lib.ListN.{length, length-set}
+use lib.ListN.{length}
 use Rattle.refusal.specs.Refusals.{largest_side}
-use Rattle.buffers.proofs.Rooms.{row_room}
 use Rattle.bounding_box.specs.Boxes.{Topped}
-use Rattle.bounding_box.proofs.Boxing.{topped-none, topped-more, topped-end}
 use Rattle.bounding_box.proofs.join_rows.Given as goal
 
 abbrev pub invariant-loop-y : goal.invariant-loop-y

@@ -1,7 +1,6 @@
 -- `span_of` goes from the first place to the end of the last; if they do not stand in this order, no place has a number above 0.
 use native.Mathlib.Omega.{arith}
 use Rattle.bounding_box.proofs.Boxing.{spans-some, spans-none}
-use borrow.Author.Rules.{rules}
 use Rattle.bounding_box.proofs.span_of.Goals as goal
 
 pub returns-then-end-first : goal.returns-then-end-first

@@ -1,10 +1,5 @@
-use mathlib.Core.Path.{◌≡◌, ◌∙◌}
-use Prim.Native.Nat.{◌≤◌}
+use mathlib.Core.Path.{◌∙◌}
 use native.Mathlib.Omega.{arith}
-use borrow.Author.Rules.{rules}
-use lib.ListN.{length}
-use Rattle.refusal.specs.Refusals.{largest_side}
-use Rattle.bounding_box.specs.Boxes.{SpreadRows}
 use Rattle.bounding_box.proofs.Boxing.{stretch, spread-rooms, spread_none, spread-more, spread-whole, spread-all}
 use Rattle.bounding_box.proofs.spread.Goals as goal
 
@@ -64,6 +59,16 @@ pub loop-y-smaller : goal.loop-y-smaller
 loop-y-smaller c =
     omega (arith, c.loop-y-test.true)
 
+pub loop-y-preserved : goal.loop-y-preserved
+loop-y-preserved c =
+    let inv = c.loop-y.invariant in
+    let t = stretch _ _ c.requires.1 _ c.loop-y-test.true inv.0 in (
+      omega (arith, inv.0),
+      c.load_line.ensures.same ∙ inv.1,
+      spread-more _ _ _ _ _ _ _ _ _ _ _ (omega (arith, c.loop-y-test.true)) t inv.2 c.load_line.ensures
+          c.zero_run.ensures c.store_line.ensures,
+    )
+
 pub overflow_mul-top : goal.overflow_mul-top
 overflow_mul-top c =
     omega (arith, spread-rooms _ _ c.requires.1, c.requires.2)
@@ -85,11 +90,10 @@ overflow_mul-height c =
     omega (arith, c.requires.2)
 
 pub zero_run-requires-3 : goal.zero_run-requires-3
-zero_run-requires-3 c =
-    (
-      (spread-rooms _ _ c.requires.1).1,
-      omega (arith, c.requires.2, c.loop-y.invariant.2.same, c.zero_run-2.ensures.same),
-    )
+zero_run-requires-3 c = (
+  (spread-rooms _ _ c.requires.1).1,
+  omega (arith, c.requires.2, c.loop-y.invariant.2.same, c.zero_run-2.ensures.same),
+)
 
 pub shape_of-map : goal.shape_of-map
 shape_of-map c =
@@ -99,13 +103,3 @@ pub returns : goal.returns
 returns c =
     spread-all _ _ c.requires.1 _ _ _ _ _ c.loop-y-test.false c.loop-y.invariant.2
     c.zero_run-2.ensures c.zero_run-3.ensures
-
-pub loop-y-preserved : goal.loop-y-preserved
-loop-y-preserved c =
-    let inv = c.loop-y.invariant in
-    let t = stretch _ _ c.requires.1 _ c.loop-y-test.true inv.0 in (
-      omega (arith, inv.0),
-      c.Load-Line.ensures.same ∙ inv.1,
-      spread-more _ _ _ _ _ _ _ _ _ _ _ (omega (arith, c.loop-y-test.true)) t inv.2 c.Load-Line.ensures
-          c.zero_run.ensures c.Store-Line.ensures,
-    )

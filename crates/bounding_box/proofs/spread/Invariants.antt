@@ -1,12 +1,9 @@
 -- `spread` goes from the last row of the box to its first: the invariant is `SpreadRows` from the row reached on.
-use mathlib.Core.Path.{◌≡◌, ◌∙◌}
+use mathlib.Core.Path.{◌≡◌}
 use Prim.Native.Nat.{◌≤◌}
-use native.Mathlib.Omega.{arith}
-use borrow.Author.Rules.{rules}
 use lib.ListN.{length}
 use Rattle.refusal.specs.Refusals.{largest_side}
 use Rattle.bounding_box.specs.Boxes.{SpreadRows}
-use Rattle.bounding_box.proofs.Boxing.{stretch, spread-rooms, spread_none, spread-more, spread-whole, spread-all}
 use Rattle.bounding_box.proofs.spread.Given as goal
 
 abbrev pub invariant-loop-y : goal.invariant-loop-y

@@ -1,10 +1,7 @@
 -- `copy_run` fills with the source's bytes: the invariant is `Filled` up to the place reached.
 use Prim.Native.Nat.{◌-◌, ◌≤◌}
-use native.Mathlib.Omega.{arith}
-use mathlib.Core.Path.{refl}
 use lib.ListN.{get_or}
 use Rattle.buffers.specs.Fill.{Filled}
-use Rattle.buffers.proofs.Fill.{filled_none, filled_more, filled-end}
 use Rattle.buffers.proofs.copy_run.Given as goal
 
 abbrev pub invariant-loop-n : goal.invariant-loop-n

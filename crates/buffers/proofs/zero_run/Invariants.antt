@@ -1,9 +1,6 @@
 -- `zero_run` fills with zeros: the invariant is `Filled` up to the place reached.
 use Prim.Native.Nat.{◌-◌, ◌≤◌}
-use native.Mathlib.Omega.{arith}
-use mathlib.Core.Path.{refl}
 use Rattle.buffers.specs.Fill.{Filled}
-use Rattle.buffers.proofs.Fill.{filled_none, filled_more, filled-end}
 use Rattle.buffers.proofs.zero_run.Given as goal
 
 abbrev pub invariant-loop-n : goal.invariant-loop-n

@@ -1,7 +1,6 @@
 -- `clearance_of` gives the first refusal met, or the clearance that `nearest_wall` finds.
 use native.Mathlib.Omega.{arith}
 use Rattle.clearance_cell.proofs.Answers.{Ready, Judged, accepted, answered}
-use borrow.Author.Rules.{rules}
 use Rattle.clearance_cell.proofs.clearance_of.Goals as goal
 
 pub nearest_wall-nearest-requires : goal.nearest_wall-nearest-requires

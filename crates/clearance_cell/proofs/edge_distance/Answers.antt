@@ -1,7 +1,6 @@
 -- `edge_distance` gives `edge_distance`: the three calls are the definition's, on its four distances.
 use mathlib.Core.Path.{ap₂, ◌∙◌}
 use Prim.Native.Nat.{min}
-use borrow.Author.Rules.{rules}
 use Rattle.clearance_cell.proofs.edge_distance.Goals as goal
 
 pub returns : goal.returns

@@ -1,5 +1,4 @@
 -- `nearest_in_row` turns the gap found into a distance, for either kind.
-use borrow.Author.Rules.{rules}
 use Rattle.clearance_cell.proofs.Search.{diamond-row, square-row}
 use Rattle.clearance_cell.proofs.nearest_in_row.Goals as goal
 

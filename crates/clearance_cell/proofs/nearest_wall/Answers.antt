@@ -1,10 +1,8 @@
 use Prim.Native.Nat.{◌+◌, ◌-◌}
 use native.Mathlib.Omega.{arith}
-use mathlib.Core.Logic.{⊎_elim}
-use native.Mathlib.Nat.{le_trans}
-use borrow.Author.Rules.{rules}
-use Rattle.clearance_cell.proofs.Search.{Searched, searched-none, searched-more, searched-end, far-row, rows_left, row-places}
+use Rattle.clearance_cell.proofs.Search.{searched-none, searched-more, searched-end, far-row, row-places}
 use Rattle.clearance_cell.proofs.nearest_wall.Goals as goal
+use Rattle.clearance_cell.proofs.nearest_wall.Goals.{then-away-best, else-away-best}
 
 pub loop-away-init : goal.loop-away-init
 loop-away-init c = rw c.edge_distance-best.ensures (searched-none _ _ _ _ _ (omega arith) (omega arith) (omega arith))
@@ -43,9 +41,9 @@ returns c = searched-end _ _ _ _ _ _ _ c.loop-away.invariant c.loop-away-test.fa
 
 pub loop-away-preserved : goal.loop-away-preserved
 loop-away-preserved c =
-    ⊎_elim
-    (λ w. rw w.2 (searched-more _ _ _ _ _ _ _ _ _ c.loop-away.invariant c.loop-away-test.true c.nearest_in_row-best.ensures
-    w.1.ensures))
-    (λ w. rw w.1 (searched-more _ _ _ _ _ _ _ _ _ c.loop-away.invariant c.loop-away-test.true c.nearest_in_row-best.ensures
-    (far-row _ _ _ _ _ _ w.0.left)))
-    c.if-away-best.branch
+    elim c.if-away-best.branch [
+      | then-away-best w ↦ rw w.best-is (searched-more _ _ _ _ _ _ _ _ _ c.loop-away.invariant c.loop-away-test.true c.nearest_in_row-best.ensures
+          w.nearest_in_row-best-then-away-best.ensures)
+      | else-away-best w ↦ rw w.best-is (searched-more _ _ _ _ _ _ _ _ _ c.loop-away.invariant c.loop-away-test.true c.nearest_in_row-best.ensures
+          (far-row _ _ _ _ _ _ w.if-away-best.false))
+    ]

@@ -1,10 +1,6 @@
 -- `nearest_wall` searches row by row: the invariant is `Searched` of the rows that are nearer than the one reached.
-use Prim.Native.Nat.{◌+◌, ◌-◌}
-use native.Mathlib.Omega.{arith}
-use mathlib.Core.Logic.{⊎_elim}
-use native.Mathlib.Nat.{le_trans}
-use borrow.Author.Rules.{rules}
-use Rattle.clearance_cell.proofs.Search.{Searched, searched-none, searched-more, searched-end, far-row, rows_left, row-places}
+use Prim.Native.Nat.{◌-◌}
+use Rattle.clearance_cell.proofs.Search.{Searched}
 use Rattle.clearance_cell.proofs.nearest_wall.Given as goal
 
 abbrev pub invariant-loop-away : goal.invariant-loop-away

@@ -1,8 +1,6 @@
-use Prim.Native.Nat.{ℕ, ◌-◌, ◌≤◌, ◌<◌}
 use native.Mathlib.Omega.{arith}
 use mathlib.Core.Logic.{inl, inr}
 use borrow.Author.Count.{below_none, below_more}
-use Rattle.clearance_cell.specs.Search.{Free}
 use Rattle.clearance_cell.proofs.row_gap.Goals as goal
 
 pub loop-gap-init : goal.loop-gap-init

@@ -1,8 +1,5 @@
 -- `row_gap` finds the nearest byte below the level: the invariant is that none stands nearer than the gap reached.
 use Prim.Native.Nat.{ℕ, ◌-◌, ◌≤◌, ◌<◌}
-use native.Mathlib.Omega.{arith}
-use mathlib.Core.Logic.{inl, inr}
-use borrow.Author.Count.{below_none, below_more}
 use Rattle.clearance_cell.specs.Search.{Free}
 use Rattle.clearance_cell.proofs.row_gap.Given as goal
 

@@ -1,7 +1,6 @@
 -- `finish_of` is `finish`, by the case of the seeds.
 use Prim.Native.Nat.{◌≤◌, ◌<◌}
 use native.Mathlib.Omega.{arith}
-use borrow.Author.Rules.{rules}
 use borrow.Author.Tests.{lt-ltb, le-ltb}
 use Rattle.distance_transform.proofs.finish_of.Goals as goal
 

@@ -1,11 +1,7 @@
 -- `finish_run` fills with what the numbers say: the invariant is `Filled` up to the place reached, which still has its old number.
-use mathlib.Core.Path.{ap, ◌∙◌}
 use Prim.Native.Nat.{◌-◌, ◌≤◌}
-use native.Mathlib.Omega.{arith}
-use borrow.Author.Rules.{rules}
 use lib.ListN.{get_or}
 use Rattle.buffers.specs.Fill.{Filled}
-use Rattle.buffers.proofs.Fill.{filled_none, filled_more, filled-end}
 use Rattle.distance_transform.specs.Transform.{finish}
 use Rattle.distance_transform.proofs.finish_run.Given as goal
 

@@ -1,9 +1,6 @@
-use Prim.Native.Nat.{◌-◌}
 use native.Mathlib.Omega.{arith}
-use borrow.Author.Rules.{rules}
-use Rattle.row_arrays.specs.Start.{seed, start}
 use Rattle.row_arrays.proofs.Rows.{row_fits, plate-held}
-use Rattle.distance_transform.proofs.Passes.{DownTo, down-none, down-more, down-all}
+use Rattle.distance_transform.proofs.Passes.{down-none, down-more, down-all}
 use Rattle.distance_transform.proofs.pass_down.Goals as goal
 
 pub loop-y-init : goal.loop-y-init

@@ -1,10 +1,7 @@
 -- `pass_down` does so for every row: the invariant is `DownTo` the row reached.
 use Prim.Native.Nat.{◌-◌}
-use native.Mathlib.Omega.{arith}
-use borrow.Author.Rules.{rules}
 use Rattle.row_arrays.specs.Start.{seed, start}
-use Rattle.row_arrays.proofs.Rows.{row_fits, plate-held}
-use Rattle.distance_transform.proofs.Passes.{DownTo, down-none, down-more, down-all}
+use Rattle.distance_transform.proofs.Passes.{DownTo}
 use Rattle.distance_transform.proofs.pass_down.Given as goal
 
 abbrev pub invariant-loop-y : goal.invariant-loop-y

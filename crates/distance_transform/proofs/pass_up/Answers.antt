@@ -2,16 +2,28 @@ use mathlib.Core.Path.{refl}
 use Prim.Native.Nat.{◌+◌, ◌-◌, ◌*◌, ◌≤◌}
 use lib.ListN.{length}
 use native.Mathlib.Omega.{arith}
-use borrow.Author.Rules.{rules}
 use Rattle.buffers.proofs.Rooms.{row_room}
 use Rattle.row_arrays.proofs.Rows.{row-zeros, row_loaded}
-use Rattle.distance_transform.proofs.Passes.{UpTo, up_none, up_more, up-all}
+use Rattle.distance_transform.proofs.Passes.{up_none, up_more, up-all}
 use Rattle.distance_transform.proofs.pass_up.Goals as goal
 
 -- the last row lies in the map
 
 pub overflow_sub-y : goal.overflow_sub-y
 overflow_sub-y c = c.requires.0.tall
+
+pub overflow_mul-y : goal.overflow_mul-y
+overflow_mul-y c =
+    let last_row : (c.args.head.height - 1) * c.args.head.width + c.args.head.width ≤ length c.args.out.now = row_room c.args.head.width (c.args.head.height - 1) c.args.head.height _ (omega (arith, c.requires.0.tall)) c.requires.1 in
+    omega (arith, last_row)
+
+pub load_run-requires : goal.load_run-requires
+load_run-requires c =
+    let last_row : (c.args.head.height - 1) * c.args.head.width + c.args.head.width ≤ length c.args.out.now = row_room c.args.head.width (c.args.head.height - 1) c.args.head.height _ (omega (arith, c.requires.0.tall)) c.requires.1 in (
+      last_row,
+      c.requires.0.narrow,
+      refl,
+    )
 
 pub loop-y-init : goal.loop-y-init
 loop-y-init c =

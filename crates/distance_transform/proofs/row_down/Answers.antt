@@ -2,7 +2,6 @@
 use Prim.Native.Nat.{◌+◌, ◌*◌, ◌≤◌}
 use native.Mathlib.Omega.{arith}
 use lib.ListN.{length}
-use borrow.Author.Rules.{rules}
 use Rattle.buffers.proofs.Rooms.{row_room}
 use Rattle.distance_transform.proofs.Passes.{row-down}
 use Rattle.distance_transform.proofs.row_down.Goals as goal
@@ -26,5 +25,5 @@ merge_row-requires c =
 
 pub returns : goal.returns
 returns c =
-    row-down _ _ _ _ _ _ _ _ _ _ _ _ c.requires.reached c.Load-row.ensures
+    row-down _ _ _ _ _ _ _ _ _ _ _ _ c.requires.reached c.load_row.ensures
     c.propagate_row.ensures c.requires.array c.merge_row.ensures

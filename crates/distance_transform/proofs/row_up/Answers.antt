@@ -2,7 +2,6 @@
 use Prim.Native.Nat.{◌+◌, ◌*◌, ◌≤◌}
 use native.Mathlib.Omega.{arith}
 use lib.ListN.{length}
-use borrow.Author.Rules.{rules}
 use Rattle.buffers.proofs.Rooms.{row_room}
 use Rattle.row_arrays.proofs.Rows.{margins-filled, row_loaded}
 use Rattle.distance_transform.proofs.Passes.{row_up}
@@ -17,8 +16,7 @@ overflow_mul-y c =
 
 pub load_run-requires : goal.load_run-requires
 load_run-requires c =
-    let row_within : c.args.y * c.args.head.width + c.args.head.width ≤ length c.args.out.now = row_room c.args.head.width c.args.y c.args.head.height _ c.requires.here c.requires.room in
-    (
+    let row_within : c.args.y * c.args.head.width + c.args.head.width ≤ length c.args.out.now = row_room c.args.head.width c.args.y c.args.head.height _ c.requires.here c.requires.room in (
       row_within,
       c.requires.held.narrow,
       c.requires.row-margins.size,

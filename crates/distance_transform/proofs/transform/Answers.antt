@@ -1,5 +1,4 @@
 -- `transform` gives clearances or the reconstruction: the way down, the way up, and what the numbers say.
-use borrow.Author.Rules.{rules}
 use Rattle.distance_transform.proofs.Finish.{transformed}
 use Rattle.distance_transform.proofs.transform.Goals as goal
 

@@ -1,7 +1,6 @@
 -- `erode_inside` makes one run of all inner rows, and zeroes what lies before it, after it, and at the sides: `first-all` puts the four together.
 use Prim.Native.Nat.{◌*◌}
 use native.Mathlib.Omega.{arith}
-use borrow.Author.Rules.{rules}
 use Rattle.erosion_step.proofs.Steps.{FirstRoom, first-room, first-interior, first-all}
 use Rattle.erosion_step.proofs.erode_inside.Goals as goal
 
@@ -32,8 +31,8 @@ erode_run-top-requires c =
 pub returns : goal.returns
 returns c =
     let given = c.args in
-    first-all given.head given.src.now given.dst.now c.zero_run.new.0 c.erode_run-top.new.1.1.0
-    c.zero_run-2.new.0 c.zero_columns.new.1.1.0 c.erode_run-top.result
+    first-all given.head given.src.now given.dst.now c.zero_run.new.dst c.erode_run-top.new.dst
+    c.zero_run-2.new.dst c.zero_columns.new.dst c.erode_run-top.result
     c.requires.wide c.requires.high
     (record {
       upper = c.zero_run.ensures;

@@ -1,9 +1,6 @@
-use Prim.Native.Nat.{◌-◌, ◌≤◌}
 use native.Mathlib.Omega.{arith}
 use mathlib.Core.Path.{◌∙◌, ap}
-use borrow.Author.Rules.{rules}
 use Rattle.window.specs.Windows.{window_min}
-use Rattle.erosion_step.specs.Steps.{Eroded}
 use Rattle.erosion_step.proofs.Steps.{eroded-none, eroded-more, eroded-end}
 use Rattle.erosion_step.proofs.erode_run.Goals as goal
 
@@ -20,14 +17,13 @@ pub overflow_add-n : goal.overflow_add-n
 overflow_add-n c = omega (arith, c.loop-n.invariant.2.filled.same)
 
 pub loop-n-preserved : goal.loop-n-preserved
-loop-n-preserved c =
-    (
-      omega arith,
-      omega arith,
-      eroded-more _ _ _ _ _ _ _ _ _ _ c.loop-n.invariant.2 (omega arith) (omega arith)
-          (c.window_min-v.ensures ∙ ap (window_min c.args.kind) c.window_in.ensures)
-          c.higher-top.ensures,
-    )
+loop-n-preserved c = (
+  omega arith,
+  omega arith,
+  eroded-more _ _ _ _ _ _ _ _ _ _ c.loop-n.invariant.2 (omega arith) (omega arith)
+      (c.window_min-v.ensures ∙ ap (window_min c.args.kind) c.window_in.ensures)
+      c.higher-top.ensures,
+)
 
 pub shape_of-dst : goal.shape_of-dst
 shape_of-dst c = c.loop-n.invariant.2.filled.same

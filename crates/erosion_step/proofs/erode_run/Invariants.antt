@@ -1,11 +1,6 @@
 -- `erode_run` fills with the lowest of nine: the invariant is `Eroded` up to the place reached.
 use Prim.Native.Nat.{◌-◌, ◌≤◌}
-use native.Mathlib.Omega.{arith}
-use mathlib.Core.Path.{◌∙◌, ap}
-use borrow.Author.Rules.{rules}
-use Rattle.window.specs.Windows.{window_min}
 use Rattle.erosion_step.specs.Steps.{Eroded}
-use Rattle.erosion_step.proofs.Steps.{eroded-none, eroded-more, eroded-end}
 use Rattle.erosion_step.proofs.erode_run.Given as goal
 
 abbrev pub invariant-loop-n : goal.invariant-loop-n

@@ -1,6 +1,5 @@
 use native.Mathlib.Omega.{arith}
 use Rattle.fields.proofs.Sized.{place-parts}
-use borrow.Author.Rules.{rules}
 use Rattle.fields.proofs.place.Goals as goal
 
 pub overflow_mul-result : goal.overflow_mul-result

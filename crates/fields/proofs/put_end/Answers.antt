@@ -2,7 +2,6 @@
 use native.Mathlib.Omega.{arith}
 use lib.ListN.{length-set}
 use Rattle.fields.proofs.Splice.{seven-end}
-use borrow.Author.Rules.{rules}
 use Rattle.fields.proofs.put_end.Goals as goal
 
 pub bounds-out-at-2 : goal.bounds-out-at-2

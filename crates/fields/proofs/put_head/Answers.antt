@@ -1,6 +1,5 @@
 use mathlib.Core.Path.{sym, ◌∙◌}
 use Rattle.fields.proofs.Sized.{head-room, head-put, small-head}
-use borrow.Author.Rules.{rules}
 use Rattle.fields.proofs.put_head.Goals as goal
 
 pub put_small_head-requires : goal.put_small_head-requires

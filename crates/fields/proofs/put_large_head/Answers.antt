@@ -1,7 +1,6 @@
 use Rattle.fields.proofs.Splice.{eight-head}
 use native.Mathlib.Omega.{arith}
 use lib.ListN.{length-set}
-use borrow.Author.Rules.{rules}
 use Rattle.fields.proofs.put_large_head.Goals as goal
 
 pub bounds-out-1 : goal.bounds-out-1

@@ -1,7 +1,6 @@
 use Rattle.fields.proofs.Splice.{ten-plunge}
 use native.Mathlib.Omega.{arith}
 use lib.ListN.{length-set}
-use borrow.Author.Rules.{rules}
 use Rattle.fields.proofs.put_large_plunge.Goals as goal
 
 pub bounds-out-at-2 : goal.bounds-out-at-2

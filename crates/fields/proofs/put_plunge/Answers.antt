@@ -1,5 +1,4 @@
 use Rattle.fields.proofs.Sized.{plunge-room, plunge-put}
-use borrow.Author.Rules.{rules}
 use Rattle.fields.proofs.put_plunge.Goals as goal
 
 pub put_small_plunge-requires : goal.put_small_plunge-requires

@@ -1,7 +1,6 @@
 use Rattle.fields.proofs.Splice.{six-head}
 use native.Mathlib.Omega.{arith}
 use lib.ListN.{length-set}
-use borrow.Author.Rules.{rules}
 use Rattle.fields.proofs.put_small_head.Goals as goal
 
 pub bounds-out-1 : goal.bounds-out-1

@@ -1,6 +1,5 @@
 -- `bad_sides` is `bad_sides`: one return for each pair of tests.
 use mathlib.Core.Path.{sym, ◌∙◌}
-use borrow.Author.Rules.{rules}
 use Rattle.refusal.proofs.bad_sides.Goals as goal
 
 pub returns-then-is_side-2 : goal.returns-then-is_side-2

@@ -2,7 +2,6 @@
 use native.Mathlib.Omega.{arith}
 use Rattle.refusal.proofs.Refusals.{area-fits, gives-2, gives-3, gives-4, gives_none}
 use mathlib.Core.Path.{sym, ◌∙◌}
-use borrow.Author.Rules.{rules}
 use Rattle.refusal.proofs.check_sides.Goals as goal
 
 pub returns-then-bad_sides : goal.returns-then-bad_sides

@@ -1,10 +1,8 @@
 -- `block_marks` takes mark after mark: the invariant is that if all so far are 0, no place so far is marked.
 use mathlib.Core.Path.{◌≡◌}
 use Prim.Native.Nat.{◌+◌, ◌-◌, ◌≤◌}
-use native.Mathlib.Omega.{arith}
 use Rattle.buffers.specs.Runs.{ZeroRun}
 use Rattle.residue_marks.specs.Marks.{block}
-use Rattle.residue_marks.proofs.Marking.{block_none, block_more, block-end}
 use Rattle.residue_marks.proofs.block_marks.Given as goal
 
 abbrev pub invariant-loop-i : goal.invariant-loop-i

@@ -1,7 +1,5 @@
 use mathlib.Core.Path.{◌≡◌, ap}
-use Prim.Native.Nat.{◌-◌, ◌≤◌}
 use native.Mathlib.Omega.{arith}
-use borrow.Author.Rules.{rules}
 use Rattle.residue_marks.specs.Marks.{tally}
 use Rattle.residue_marks.proofs.Marking.{tally-few}
 use Rattle.residue_marks.proofs.count_marks.Goals as goal

@@ -1,10 +1,7 @@
 -- `count_marks` counts stretch after stretch: the invariant is the tally up to the place reached.
-use mathlib.Core.Path.{◌≡◌, ap}
+use mathlib.Core.Path.{◌≡◌}
 use Prim.Native.Nat.{◌-◌, ◌≤◌}
-use native.Mathlib.Omega.{arith}
-use borrow.Author.Rules.{rules}
 use Rattle.residue_marks.specs.Marks.{tally}
-use Rattle.residue_marks.proofs.Marking.{tally-few}
 use Rattle.residue_marks.proofs.count_marks.Given as goal
 
 abbrev pub invariant-loop-i : goal.invariant-loop-i

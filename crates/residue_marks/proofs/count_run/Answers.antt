@@ -1,7 +1,5 @@
 use mathlib.Core.Path.{◌≡◌, ap}
-use Prim.Native.Nat.{◌+◌, ◌-◌, ◌≤◌}
 use native.Mathlib.Omega.{arith}
-use borrow.Author.Rules.{rules}
 use lib.ListN.{get_or}
 use Rattle.residue_marks.specs.Marks.{tally}
 use Rattle.residue_marks.proofs.Marking.{counted-small, count-more}

@@ -1,11 +1,7 @@
 -- `count_run` counts place after place: the invariant is the tally up to the place reached.
-use mathlib.Core.Path.{◌≡◌, ap}
+use mathlib.Core.Path.{◌≡◌}
 use Prim.Native.Nat.{◌+◌, ◌-◌, ◌≤◌}
-use native.Mathlib.Omega.{arith}
-use borrow.Author.Rules.{rules}
-use lib.ListN.{get_or}
 use Rattle.residue_marks.specs.Marks.{tally}
-use Rattle.residue_marks.proofs.Marking.{counted-small, count-more}
 use Rattle.residue_marks.proofs.count_run.Given as goal
 
 abbrev pub invariant-loop-i : goal.invariant-loop-i

@@ -1,7 +1,6 @@
 -- `note_block` passes over a block without a mark.
 use native.Mathlib.Omega.{arith}
 use Rattle.residue_marks.proofs.Marking.{noted-skip}
-use borrow.Author.Rules.{rules}
 use Rattle.residue_marks.proofs.note_block.Goals as goal
 
 pub returns-then-block_marks-eq0 : goal.returns-then-block_marks-eq0

@@ -1,7 +1,5 @@
 use mathlib.Core.Path.{◌∙◌}
-use Prim.Native.Nat.{◌-◌, ◌≤◌}
 use native.Mathlib.Omega.{arith}
-use Rattle.residue_marks.specs.Marks.{Noted}
 use Rattle.residue_marks.proofs.Marking.{noted-none, noted-on}
 use Rattle.residue_marks.proofs.note_marks.Goals as goal
 
@@ -15,11 +13,10 @@ note_block-count-requires c =
     { ordered = omega arith; within = omega (arith, c.requires.within); few = so_far.few; size = c.requires.size; room = so_far.same ∙ c.requires.room }
 
 pub loop-i-preserved : goal.loop-i-preserved
-loop-i-preserved c =
-    (
-      omega arith,
-      noted-on _ _ _ _ _ _ _ _ _ _ (omega arith) (omega arith) c.loop-i.invariant.1 c.note_block-count.ensures,
-    )
+loop-i-preserved c = (
+  omega arith,
+  noted-on _ _ _ _ _ _ _ _ _ _ (omega arith) (omega arith) c.loop-i.invariant.1 c.note_block-count.ensures,
+)
 
 pub note_places-requires : goal.note_places-requires
 note_places-requires c =

@@ -1,9 +1,6 @@
 -- `note_marks` goes from block to block, then over the rest: the invariant is `Noted` up to the place reached.
-use mathlib.Core.Path.{◌∙◌}
 use Prim.Native.Nat.{◌-◌, ◌≤◌}
-use native.Mathlib.Omega.{arith}
 use Rattle.residue_marks.specs.Marks.{Noted}
-use Rattle.residue_marks.proofs.Marking.{noted-none, noted-on}
 use Rattle.residue_marks.proofs.note_marks.Given as goal
 
 abbrev pub invariant-loop-i : goal.invariant-loop-i

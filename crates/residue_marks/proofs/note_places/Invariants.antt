@@ -1,11 +1,6 @@
 -- `note_places` writes each place behind those noted, and counts it where it is marked: the invariant is `Noted` up to the place reached.
-use mathlib.Core.Path.{◌≡◌, subst}
-use Prim.Native.Nat.{ℕ, ◌-◌, ◌≤◌}
-use native.Mathlib.Omega.{arith}
-use borrow.Author.Rules.{rules}
-use lib.ListN.{get_or}
+use Prim.Native.Nat.{◌-◌, ◌≤◌}
 use Rattle.residue_marks.specs.Marks.{Noted}
-use Rattle.residue_marks.proofs.Marking.{counted-small, noted-none, noted_more}
 use Rattle.residue_marks.proofs.note_places.Given as goal
 
 abbrev pub invariant-loop-i : goal.invariant-loop-i

@@ -1,10 +1,7 @@
 -- `copy_row` fills with the numbers of the row: the invariant is `Filled` up to the place reached.
-use mathlib.Core.Path.{refl}
 use Prim.Native.Nat.{◌+◌, ◌-◌, ◌≤◌}
-use native.Mathlib.Omega.{arith}
 use lib.ListN.{get_or}
 use Rattle.buffers.specs.Fill.{Filled}
-use Rattle.buffers.proofs.Fill.{filled_none, filled_more, filled-end}
 use Rattle.row_arrays.specs.Rows.{margin}
 use Rattle.row_arrays.proofs.copy_row.Given as goal
 

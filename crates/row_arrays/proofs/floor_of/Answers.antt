@@ -1,5 +1,4 @@
 -- `floor_of` gives the border's number in the first and the last row: each return has the tests that led to it.
-use borrow.Author.Rules.{rules}
 use borrow.Author.Tests.{eq-eqb, ne_eqb}
 use Rattle.row_arrays.proofs.floor_of.Goals as goal
 

@@ -1,7 +1,6 @@
 -- `highest_beside` is `highest_beside`, by kind.
 use mathlib.Core.Path.{ap, ◌∙◌}
 use Prim.Native.Nat.{max}
-use borrow.Author.Rules.{rules}
 use Rattle.row_arrays.proofs.highest_beside.Goals as goal
 
 pub returns-in-Diamond : goal.returns-in-Diamond

@@ -1,9 +1,7 @@
 -- `load_row` leaves the start of a row: seeds with the row's floor, then both ends raised to the border's number.
 use mathlib.Core.Path.{ap, ◌∙◌}
-use Prim.Native.Nat.{◌+◌, ◌-◌, ◌*◌, ◌≤◌}
-use lib.ListN.{length}
+use Prim.Native.Nat.{◌-◌}
 use native.Mathlib.Omega.{arith}
-use borrow.Author.Rules.{rules}
 use Rattle.buffers.proofs.Rooms.{row_room}
 use Rattle.row_arrays.specs.Start.{seed}
 use Rattle.row_arrays.proofs.Start.{loaded}
@@ -14,12 +12,11 @@ overflow_mul-y c =
     omega (arith, row_room c.args.head.width c.args.y c.args.head.height _ c.requires.here c.requires.long)
 
 pub load_run-requires : goal.load_run-requires
-load_run-requires c =
-    (
-      row_room c.args.head.width c.args.y c.args.head.height _ c.requires.here c.requires.long,
-      c.requires.held.narrow,
-      c.requires.margins.size,
-    )
+load_run-requires c = (
+  row_room c.args.head.width c.args.y c.args.head.height _ c.requires.here c.requires.long,
+  c.requires.held.narrow,
+  c.requires.margins.size,
+)
 
 pub returns : goal.returns
 returns c =

@@ -1,11 +1,7 @@
 -- `load_run` fills with seeds that are no lower than the floor: the invariant is `Filled` up to the place reached.
-use mathlib.Core.Path.{ap, ◌∙◌}
 use Prim.Native.Nat.{◌+◌, ◌-◌, ◌≤◌, max}
-use native.Mathlib.Omega.{arith}
-use borrow.Author.Rules.{rules}
 use lib.ListN.{get_or}
 use Rattle.buffers.specs.Fill.{Filled}
-use Rattle.buffers.proofs.Fill.{filled_none, filled_more, filled-end}
 use Rattle.row_arrays.specs.Rows.{margin}
 use Rattle.row_arrays.specs.Start.{seed}
 use Rattle.row_arrays.proofs.load_run.Given as goal

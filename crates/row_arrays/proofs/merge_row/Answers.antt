@@ -1,5 +1,4 @@
 -- `merge_row` leaves the joined row in all three buffers, from what the three steps ensure.
-use borrow.Author.Rules.{rules}
 use Rattle.row_arrays.proofs.Rows.{merged}
 use Rattle.row_arrays.proofs.merge_row.Goals as goal
 

@@ -1,5 +1,4 @@
 -- `propagate_row` widens what is known from each column alone to `row_reach` columns: by four, four times.
-use borrow.Author.Rules.{rules}
 use Rattle.row_arrays.proofs.propagate_row.Goals as goal
 
 pub returns : goal.returns

@@ -1,10 +1,6 @@
 -- `propagate_step` fills with the highest of three places a step apart: the invariant is `Filled` up to the place reached.
-use mathlib.Core.Path.{ap, ap₂, ◌∙◌}
-use Prim.Native.Nat.{◌+◌, ◌-◌, ◌≤◌, max}
-use native.Mathlib.Omega.{arith}
-use borrow.Author.Rules.{rules}
+use Prim.Native.Nat.{◌+◌, ◌-◌, ◌≤◌}
 use Rattle.buffers.specs.Fill.{Filled}
-use Rattle.buffers.proofs.Fill.{filled_none, filled_more, filled-end}
 use Rattle.row_arrays.specs.Rows.{margin, propagated_at}
 use Rattle.row_arrays.proofs.propagate_step.Given as goal
 

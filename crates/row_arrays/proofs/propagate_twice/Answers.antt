@@ -1,6 +1,5 @@
 -- `propagate_twice` widens what is known by four: a doubling into the spare row and a doubling back.
 use native.Mathlib.Omega.{arith}
-use borrow.Author.Rules.{rules}
 use Rattle.row_arrays.proofs.Rows.{widened_twice}
 use Rattle.row_arrays.proofs.propagate_twice.Goals as goal
 

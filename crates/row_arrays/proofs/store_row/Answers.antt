@@ -1,10 +1,6 @@
 use mathlib.Core.Path.{refl}
-use Prim.Native.Nat.{◌+◌, ◌-◌, ◌≤◌}
 use native.Mathlib.Omega.{arith}
-use lib.ListN.{get_or}
-use Rattle.buffers.specs.Fill.{Filled}
 use Rattle.buffers.proofs.Fill.{filled_none, filled_more, filled-end}
-use Rattle.row_arrays.specs.Rows.{margin}
 use Rattle.row_arrays.proofs.store_row.Goals as goal
 
 pub loop-n-init : goal.loop-n-init

@@ -3,7 +3,6 @@ use Prim.Native.Nat.{◌+◌, ◌-◌, ◌*◌, ◌≤◌}
 use lib.ListN.{length}
 use native.Mathlib.Omega.{arith}
 use Rattle.row_filter.proofs.InPlace.{between}
-use borrow.Author.Rules.{rules}
 use Rattle.row_filter.proofs.filter_row.Goals as goal
 
 -- the row's columns between the edges lie in the map
@@ -23,8 +22,7 @@ overflow_add-from c =
 pub filter_run-requires : goal.filter_run-requires
 filter_run-requires c =
     let stretch : c.args.y * c.args.head.width + c.args.edge + (c.args.head.width - 2 * c.args.edge) ≤ length c.args.map.now = between c.args.head.width c.args.edge c.args.y c.args.head.height _ c.requires.some
-    (omega (arith, c.requires.here)) c.requires.long in
-    (
+    (omega (arith, c.requires.here)) c.requires.long in (
       stretch,
       omega (arith, c.requires.sides.narrow),
     )

@@ -1,9 +1,8 @@
 use mathlib.Core.Path.{◌∙◌}
 use Prim.Native.Nat.{◌-◌, ◌*◌}
 use native.Mathlib.Omega.{arith}
-use borrow.Author.Rules.{rules}
 use Rattle.row_arrays.proofs.Rows.{row-zeros}
-use Rattle.row_filter.proofs.InPlace.{FilteredTo, filtered-none, filtered-more, done_all}
+use Rattle.row_filter.proofs.InPlace.{filtered-none, filtered-more, done_all}
 use Rattle.row_filter.proofs.filter_rows.Goals as goal
 
 pub read_row-requires : goal.read_row-requires

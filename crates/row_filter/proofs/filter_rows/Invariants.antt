@@ -1,10 +1,6 @@
 -- `filter_rows` makes a number of each window, row after row: the invariant is `FilteredTo` the row reached.
-use mathlib.Core.Path.{◌∙◌}
-use Prim.Native.Nat.{◌-◌, ◌*◌}
-use native.Mathlib.Omega.{arith}
-use borrow.Author.Rules.{rules}
-use Rattle.row_arrays.proofs.Rows.{row-zeros}
-use Rattle.row_filter.proofs.InPlace.{FilteredTo, filtered-none, filtered-more, done_all}
+use Prim.Native.Nat.{◌-◌}
+use Rattle.row_filter.proofs.InPlace.{FilteredTo}
 use Rattle.row_filter.proofs.filter_rows.Given as goal
 
 abbrev pub invariant-loop-y : goal.invariant-loop-y

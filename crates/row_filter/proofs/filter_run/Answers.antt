@@ -1,24 +1,19 @@
 use mathlib.Core.Path.{ap, ◌∙◌}
-use Prim.Native.Nat.{◌+◌, ◌-◌, ◌≤◌}
 use native.Mathlib.Omega.{arith}
-use borrow.Author.Rules.{rules}
-use Rattle.buffers.specs.Fill.{Filled}
 use Rattle.buffers.proofs.Fill.{filled_none, filled_more, filled-end}
-use Rattle.row_arrays.specs.Rows.{margin}
-use Rattle.row_filter.specs.Filter.{leaf, window_rows}
+use Rattle.row_filter.specs.Filter.{leaf}
 use Rattle.row_filter.proofs.filter_run.Goals as goal
 
 pub loop-n-init : goal.loop-n-init
 loop-n-init c = (omega arith, omega arith, filled_none _ _ _)
 
 pub loop-n-preserved : goal.loop-n-preserved
-loop-n-preserved c =
-    (
-      omega arith,
-      omega arith,
-      filled_more _ _ _ _ _ _ c.loop-n.invariant.2 (omega arith) (omega arith)
-          (c.leaf_of.ensures ∙ ap (leaf c.args.made c.args.kind) c.window_rows.ensures),
-    )
+loop-n-preserved c = (
+  omega arith,
+  omega arith,
+  filled_more _ _ _ _ _ _ c.loop-n.invariant.2 (omega arith) (omega arith)
+      (c.leaf_of.ensures ∙ ap (leaf c.args.made c.args.kind) c.window_rows.ensures),
+)
 
 pub shape_of-map : goal.shape_of-map
 shape_of-map c = c.loop-n.invariant.2.same

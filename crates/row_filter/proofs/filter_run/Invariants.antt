@@ -1,10 +1,6 @@
 -- `filter_run` fills a stretch with what is made of each window: the invariant is `Filled` up to the place reached.
-use mathlib.Core.Path.{ap, ◌∙◌}
 use Prim.Native.Nat.{◌+◌, ◌-◌, ◌≤◌}
-use native.Mathlib.Omega.{arith}
-use borrow.Author.Rules.{rules}
 use Rattle.buffers.specs.Fill.{Filled}
-use Rattle.buffers.proofs.Fill.{filled_none, filled_more, filled-end}
 use Rattle.row_arrays.specs.Rows.{margin}
 use Rattle.row_filter.specs.Filter.{leaf, window_rows}
 use Rattle.row_filter.proofs.filter_run.Given as goal

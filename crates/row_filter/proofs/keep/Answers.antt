@@ -1,5 +1,4 @@
 -- `keep` is `kept`, by the test against the window's highest number.
-use borrow.Author.Rules.{rules}
 use Rattle.row_filter.proofs.Keeping.{keeps, drops}
 use Rattle.row_filter.proofs.keep.Goals as goal
 

@@ -1,5 +1,4 @@
 -- `leaf_of` is `leaf`, case by case.
-use borrow.Author.Rules.{rules}
 use Rattle.row_filter.proofs.leaf_of.Goals as goal
 
 pub returns-in-Axis : goal.returns-in-Axis

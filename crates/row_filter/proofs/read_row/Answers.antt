@@ -3,28 +3,27 @@ use Prim.Native.Nat.{◌+◌, ◌-◌, ◌*◌, ◌≤◌, ◌<◌}
 use lib.ListN.{length}
 use native.Mathlib.Omega.{arith}
 use Rattle.row_filter.proofs.InPlace.{between, row_read, row-cleared}
-use borrow.Author.Rules.{rules}
 use Rattle.row_filter.proofs.read_row.Goals as goal
 
 -- the row's columns between the edges lie in the map
 
-stretch : (s : tie.Start) → s.args.y < s.args.head.height
-    → s.args.y * s.args.head.width + s.args.edge + (s.args.head.width - 2 * s.args.edge) ≤ length s.args.map.now
-stretch s h =
-    between s.args.head.width s.args.edge s.args.y s.args.head.height _ s.requires.some h s.requires.long
-
 pub overflow_mul-y : goal.overflow_mul-y
 overflow_mul-y c =
-    omega (arith, stretch c (omega (arith, c.if-y-edge.true)))
+    let stretch : c.args.y < c.args.head.height
+    → c.args.y * c.args.head.width + c.args.edge + (c.args.head.width - 2 * c.args.edge) ≤ length c.args.map.now = λ h. between c.args.head.width c.args.edge c.args.y c.args.head.height _ c.requires.some h c.requires.long in
+    omega (arith, stretch (omega (arith, c.if-y-edge.true)))
 
 pub overflow_add-y-then-y-edge : goal.overflow_add-y-then-y-edge
 overflow_add-y-then-y-edge c =
-    omega (arith, stretch c (omega (arith, c.if-y-edge.true)))
+    let stretch : c.args.y < c.args.head.height
+    → c.args.y * c.args.head.width + c.args.edge + (c.args.head.width - 2 * c.args.edge) ≤ length c.args.map.now = λ h. between c.args.head.width c.args.edge c.args.y c.args.head.height _ c.requires.some h c.requires.long in
+    omega (arith, stretch (omega (arith, c.if-y-edge.true)))
 
 pub load_run-requires : goal.load_run-requires
 load_run-requires c =
-    (
-      omega (arith, stretch c (omega (arith, c.if-y-edge.true))),
+    let stretch : c.args.y < c.args.head.height
+    → c.args.y * c.args.head.width + c.args.edge + (c.args.head.width - 2 * c.args.edge) ≤ length c.args.map.now = λ h. between c.args.head.width c.args.edge c.args.y c.args.head.height _ c.requires.some h c.requires.long in (
+      omega (arith, stretch (omega (arith, c.if-y-edge.true))),
       omega (arith, c.requires.sides.narrow),
       c.requires.margins.size,
     )

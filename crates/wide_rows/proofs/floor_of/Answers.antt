@@ -1,6 +1,5 @@
 -- `floor_of` gives the border's number in the first and the last row: each return has the tests that led to it.
 use borrow.Author.Tests.{eq-eqb, ne_eqb}
-use borrow.Author.Rules.{rules}
 use Rattle.wide_rows.proofs.floor_of.Goals as goal
 
 pub returns-then-y-eq0 : goal.returns-then-y-eq0

@@ -1,10 +1,6 @@
 -- `join_row` fills with the joined numbers: the invariant is `Filled` up to the place reached, which still has its old number.
-use mathlib.Core.Path.{ap, ap₂, ◌∙◌}
-use Prim.Native.Nat.{◌+◌, ◌-◌, ◌≤◌, max}
-use native.Mathlib.Omega.{arith}
-use borrow.Author.Rules.{rules}
+use Prim.Native.Nat.{◌+◌, ◌-◌, ◌≤◌}
 use Rattle.buffers.specs.Fill.{Filled}
-use Rattle.buffers.proofs.Fill.{filled_none, filled_more, filled-end}
 use Rattle.row_arrays.specs.Rows.{margin, joined_row}
 use Rattle.wide_rows.proofs.join_row.Given as goal
 

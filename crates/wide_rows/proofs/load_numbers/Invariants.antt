@@ -1,15 +1,9 @@
 -- `load_numbers` fills with the map's numbers: the invariant is `Filled` up to the place reached.
-use mathlib.Core.Path.{sym, ◌∙◌}
 use Prim.Native.Nat.{◌+◌, ◌-◌, ◌≤◌}
-use native.Mathlib.Omega.{arith}
-use borrow.Author.Rules.{rules}
 use lib.ListN.{get_or}
 use Rattle.buffers.specs.Fill.{Filled}
-use Rattle.buffers.proofs.Fill.{filled_none, filled_more, filled-end}
 use Rattle.row_arrays.specs.Rows.{margin}
-use Rattle.row_arrays.proofs.Rows.{row_of}
 use Rattle.wide_rows.specs.Wide.{wide_numbers}
-use Rattle.wide_rows.proofs.Wide.{get_or-wide}
 use Rattle.wide_rows.proofs.load_numbers.Given as goal
 
 abbrev pub invariant-loop-n : goal.invariant-loop-n

@@ -1,26 +1,19 @@
 use mathlib.Core.Path.{ap, ◌∙◌}
-use Prim.Native.Nat.{◌+◌, ◌-◌, ◌≤◌, max}
+use Prim.Native.Nat.{max}
 use native.Mathlib.Omega.{arith}
-use borrow.Author.Rules.{rules}
-use lib.ListN.{get_or}
-use Rattle.buffers.specs.Fill.{Filled}
 use Rattle.buffers.proofs.Fill.{filled_none, filled_more, filled-end}
-use Rattle.row_arrays.specs.Rows.{margin}
-use Rattle.row_arrays.specs.Start.{wall_number}
-use Rattle.wide_rows.specs.Wide.{wide_wall}
 use Rattle.wide_rows.proofs.load_seeds.Goals as goal
 
 pub loop-n-init : goal.loop-n-init
 loop-n-init c = (omega arith, omega arith, filled_none _ _ _)
 
 pub loop-n-preserved : goal.loop-n-preserved
-loop-n-preserved c =
-    (
-      omega arith,
-      omega arith,
-      filled_more _ _ _ _ _ _ c.loop-n.invariant.2 (omega arith) (omega arith)
-          (c.higher.ensures ∙ ap (λ v. max v c.args.floor) c.seed_of.ensures),
-    )
+loop-n-preserved c = (
+  omega arith,
+  omega arith,
+  filled_more _ _ _ _ _ _ c.loop-n.invariant.2 (omega arith) (omega arith)
+      (c.higher.ensures ∙ ap (λ v. max v c.args.floor) c.seed_of.ensures),
+)
 
 pub returns : goal.returns
 returns c = filled-end _ _ _ _ _ _ c.loop-n.invariant.1 c.loop-n-test.false c.loop-n.invariant.2

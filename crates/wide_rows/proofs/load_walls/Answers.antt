@@ -2,7 +2,6 @@
 use mathlib.Core.Path.{ap, ◌∙◌}
 use Prim.Native.Nat.{◌+◌, ◌-◌, ◌*◌, ◌≤◌}
 use native.Mathlib.Omega.{arith}
-use borrow.Author.Rules.{rules}
 use lib.ListN.{length}
 use Rattle.buffers.proofs.Rooms.{row_room}
 use Rattle.row_arrays.specs.Start.{wall_number}
@@ -19,8 +18,7 @@ overflow_mul-y c =
 
 pub load_seeds-requires : goal.load_seeds-requires
 load_seeds-requires c =
-    let row_within : c.args.y * c.args.head.width + c.args.head.width ≤ length c.args.relief.now = row_room c.args.head.width c.args.y c.args.head.height _ c.requires.here c.requires.long in
-    (
+    let row_within : c.args.y * c.args.head.width + c.args.head.width ≤ length c.args.relief.now = row_room c.args.head.width c.args.y c.args.head.height _ c.requires.here c.requires.long in (
       row_within,
       c.requires.held.narrow,
       c.requires.margins.size,

@@ -1,6 +1,5 @@
 -- `merge_row` leaves the joined row in all three buffers, from what the three steps ensure.
 use Prim.Native.Nat.{◌+◌, ◌*◌, ◌≤◌}
-use borrow.Author.Rules.{rules}
 use lib.ListN.{length}
 use Rattle.wide_rows.proofs.Wide.{wide_room, wide-merged}
 use Rattle.wide_rows.proofs.merge_row.Goals as goal
@@ -9,8 +8,7 @@ use Rattle.wide_rows.proofs.merge_row.Goals as goal
 
 pub store_row-requires : goal.store_row-requires
 store_row-requires c =
-    let room_within : 2 * (c.args.from + c.args.width) ≤ length c.args.out.now = wide_room c.args.out.now (c.args.from + c.args.width) c.requires.room in
-    (
+    let room_within : 2 * (c.args.from + c.args.width) ≤ length c.args.out.now = wide_room c.args.out.now (c.args.from + c.args.width) c.requires.room in (
       room_within,
       c.requires.narrow,
     )

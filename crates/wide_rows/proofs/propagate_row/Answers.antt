@@ -1,5 +1,4 @@
 -- `propagate_row` widens what is known from each column alone to `wide_reach` columns: by four, five times.
-use borrow.Author.Rules.{rules}
 use Rattle.wide_rows.proofs.propagate_row.Goals as goal
 
 pub returns : goal.returns

@@ -1,24 +1,20 @@
 use mathlib.Core.Path.{ap, ap₂, ◌∙◌}
-use Prim.Native.Nat.{◌+◌, ◌-◌, ◌≤◌, max}
+use Prim.Native.Nat.{max}
 use native.Mathlib.Omega.{arith}
-use borrow.Author.Rules.{rules}
-use Rattle.buffers.specs.Fill.{Filled}
 use Rattle.buffers.proofs.Fill.{filled_none, filled_more, filled-end}
-use Rattle.row_arrays.specs.Rows.{margin, propagated_at}
 use Rattle.wide_rows.proofs.propagate_step.Goals as goal
 
 pub loop-n-init : goal.loop-n-init
 loop-n-init c = (omega arith, omega arith, filled_none _ _ _)
 
 pub loop-n-preserved : goal.loop-n-preserved
-loop-n-preserved c =
-    (
-      omega arith,
-      omega arith,
-      filled_more _ _ _ _ _ _ c.loop-n.invariant.2 (omega arith) (omega arith)
-          (c.higher-in-loop-n.ensures ∙ ap (max _)
-          (c.higher.ensures ∙ ap₂ max c.less.ensures c.less-in-loop-n.ensures)),
-    )
+loop-n-preserved c = (
+  omega arith,
+  omega arith,
+  filled_more _ _ _ _ _ _ c.loop-n.invariant.2 (omega arith) (omega arith)
+      (c.higher-in-loop-n.ensures ∙ ap (max _)
+      (c.higher.ensures ∙ ap₂ max c.less.ensures c.less-in-loop-n.ensures)),
+)
 
 pub returns : goal.returns
 returns c = filled-end _ _ _ _ _ _ c.loop-n.invariant.1 c.loop-n-test.false c.loop-n.invariant.2

@@ -1,5 +1,4 @@
 -- `propagate_twice` widens what is known by four: a doubling into the spare row and a doubling back.
-use borrow.Author.Rules.{rules}
 use Rattle.row_arrays.proofs.Rows.{widened_twice}
 use Rattle.wide_rows.proofs.propagate_twice.Goals as goal
 

@@ -1,9 +1,5 @@
-use Prim.Native.Nat.{◌+◌, ◌-◌, ◌≤◌}
 use native.Mathlib.Omega.{arith}
-use borrow.Author.Rules.{rules}
-use lib.ListN.{get_or, length-set}
-use Rattle.row_arrays.specs.Rows.{margin}
-use Rattle.wide_rows.specs.Wide.{WideFilled}
+use lib.ListN.{length-set}
 use Rattle.wide_rows.proofs.Wide.{wide-none, wide-more, wide-end}
 use Rattle.wide_rows.proofs.store_row.Goals as goal
 
@@ -14,12 +10,11 @@ pub bounds-out-n-in-loop-n : goal.bounds-out-n-in-loop-n
 bounds-out-n-in-loop-n c = simp length-set (omega arith)
 
 pub loop-n-preserved : goal.loop-n-preserved
-loop-n-preserved c =
-    (
-      omega arith,
-      omega arith,
-      wide-more _ _ _ _ _ _ _ c.loop-n.invariant.2 (omega arith) (omega arith) c.first_byte.ensures c.second_byte.ensures,
-    )
+loop-n-preserved c = (
+  omega arith,
+  omega arith,
+  wide-more _ _ _ _ _ _ _ c.loop-n.invariant.2 (omega arith) (omega arith) c.first_byte.ensures c.second_byte.ensures,
+)
 
 pub shape_of-out : goal.shape_of-out
 shape_of-out c = c.loop-n.invariant.2.same

@@ -1,11 +1,8 @@
 -- `store_row` stores the row's numbers: the invariant is `WideFilled` up to the number reached.
 use Prim.Native.Nat.{◌+◌, ◌-◌, ◌≤◌}
-use native.Mathlib.Omega.{arith}
-use borrow.Author.Rules.{rules}
-use lib.ListN.{get_or, length-set}
+use lib.ListN.{get_or}
 use Rattle.row_arrays.specs.Rows.{margin}
 use Rattle.wide_rows.specs.Wide.{WideFilled}
-use Rattle.wide_rows.proofs.Wide.{wide-none, wide-more, wide-end}
 use Rattle.wide_rows.proofs.store_row.Given as goal
 
 abbrev pub invariant-loop-n : goal.invariant-loop-n

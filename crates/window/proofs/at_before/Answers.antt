@@ -2,7 +2,6 @@
 use native.Mathlib.Omega.{arith}
 use borrow.Author.Tests.{eq-eqb, ne_eqb, lt-ltb, le-ltb}
 use Rattle.window.specs.Places.{largest_word}
-use borrow.Author.Rules.{rules}
 use lib.ListN.{get_or-eq_default}
 use Rattle.window.proofs.Windows.{place-below, before-is}
 use Rattle.window.proofs.at_before.Goals as goal

@@ -1,7 +1,6 @@
 -- `corners_max`: the three calls of `higher` are the definition's, on its four corners.
 use Prim.Native.Nat.{max}
 use Rattle.window.proofs.Windows.{corners-of}
-use borrow.Author.Rules.{rules}
 use Rattle.window.proofs.corners_max.Goals as goal
 
 pub returns : goal.returns

@@ -1,7 +1,6 @@
 -- `corners_min`: the three calls of `lower` are the definition's, on its four corners.
 use Prim.Native.Nat.{min}
 use Rattle.window.proofs.Windows.{corners-of}
-use borrow.Author.Rules.{rules}
 use Rattle.window.proofs.corners_min.Goals as goal
 
 pub returns : goal.returns

@@ -1,7 +1,6 @@
 -- `cross_max`: the four calls of `higher` are the definition's, on its five places.
 use Prim.Native.Nat.{max}
 use Rattle.window.proofs.Windows.{cross-of}
-use borrow.Author.Rules.{rules}
 use Rattle.window.proofs.cross_max.Goals as goal
 
 pub returns : goal.returns

@@ -1,7 +1,6 @@
 -- `cross_min`: the four calls of `lower` are the definition's, on its five places.
 use Prim.Native.Nat.{min}
 use Rattle.window.proofs.Windows.{cross-of}
-use borrow.Author.Rules.{rules}
 use Rattle.window.proofs.cross_min.Goals as goal
 
 pub returns : goal.returns

@@ -1,6 +1,5 @@
 -- `row_before` gives three numbers: those of its three calls of `at_before`.
 use Rattle.window.proofs.Windows.{three}
-use borrow.Author.Rules.{rules}
 use Rattle.window.proofs.row_before.Goals as goal
 
 pub returns : goal.returns

@@ -1,7 +1,6 @@
 -- `window_at` gives `window_of` the cell: what the three calls of `row_before` give is its window, by `window-is`.
 use mathlib.Core.Path.{◌∙◌}
 use Rattle.window.proofs.Windows.{three, window-is}
-use borrow.Author.Rules.{rules}
 use Rattle.window.proofs.window_at.Goals as goal
 
 pub returns : goal.returns

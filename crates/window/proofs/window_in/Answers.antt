@@ -1,6 +1,5 @@
 -- `window_in` gives `window_in`: its rows are those of the three calls of `row_in`.
 use Rattle.window.proofs.Windows.{three}
-use borrow.Author.Rules.{rules}
 use Rattle.window.proofs.window_in.Goals as goal
 
 pub returns : goal.returns

@@ -1,7 +1,6 @@
 -- `window_max` gives `window_max`: the cross, and the cross with the corners, are the window's numbers in another order.
 use mathlib.Core.Path.{ap₂, ◌∙◌}
 use Prim.Native.Nat.{max}
-use borrow.Author.Rules.{rules}
 use Rattle.window.proofs.Windows.{of-max, cross-in-order, nine-in-order}
 use Rattle.window.proofs.window_max.Goals as goal
 

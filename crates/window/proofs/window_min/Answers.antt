@@ -1,7 +1,6 @@
 -- `window_min` gives `window_min`: the cross, and the cross with the corners, are the window's numbers in another order.
 use mathlib.Core.Path.{ap₂, ◌∙◌}
 use Prim.Native.Nat.{min}
-use borrow.Author.Rules.{rules}
 use Rattle.window.proofs.Windows.{of-min, cross-in-order, nine-in-order}
 use Rattle.window.proofs.window_min.Goals as goal
 

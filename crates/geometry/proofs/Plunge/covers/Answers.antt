@@ -1,5 +1,4 @@
 -- `Plunge::covers` gives `covers`: both compare the distance, which `Kind::distance` gives, with the reach.
-use borrow.Author.Rules.{rules}
 use Rattle.geometry.proofs.Plunge.covers.Goals as goal
 
 pub returns : goal.returns

@@ -1,7 +1,6 @@
 -- `Plunge::fits_plate` gives `fits_plate`: the nested ifs are the definition's four tests, in its order.
 use Prim.Native.Nat.{◌+◌, ◌<◌}
 use borrow.Author.Tests.{le-leb, lt-leb, lt-ltb, le-ltb}
-use borrow.Author.Rules.{rules}
 use Rattle.geometry.proofs.Plunge.fits_plate.Goals as goal
 
 pub returns-then-self-reach : goal.returns-then-self-reach

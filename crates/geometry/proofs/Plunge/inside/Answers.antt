@@ -1,7 +1,6 @@
 -- `Plunge::inside` gives `inside`: the distance is `Kind::distance`'s, and with a reach added it still fits.
 use native.Mathlib.Omega.{arith}
 use borrow.Author.Tests.{le-leb, lt-leb}
-use borrow.Author.Rules.{rules}
 use Rattle.geometry.proofs.Distances.{dist-at-most}
 use Rattle.geometry.proofs.Plunge.inside.Goals as goal
 

@@ -2,7 +2,6 @@
 use mathlib.Core.Path.{◌≡◌, refl, ◌∙◌}
 use Prim.Native.Nat.{ℕ, zero, suc, ◌-◌}
 use native.Mathlib.Numerals.{sub-one}
-use borrow.Author.Rules.{rules}
 use Rattle.geometry.specs.Forms.{reach_of, reach_of_clearance}
 use Rattle.geometry.proofs.Reach.of_clearance.Goals as goal
 
