@@ -1,0 +1,16 @@
+-- `cross_run` makes the highest of each window and leaves the row below in its array: the invariant is `CrossedRun` up to the place reached.
+use mathlib.Core.Path.{refl, ap, ◌∙◌}
+use Prim.Native.Nat.{◌-◌, ◌≤◌}
+use native.Mathlib.Omega.{arith}
+use borrow.Author.Rules.{rules}
+use Rattle.geometry.specs.declared.Kind.TheVariants.{Diamond}
+use Rattle.window.specs.Windows.{window_max}
+use Rattle.cross_filter.specs.Cross.{CrossedRun}
+use Rattle.cross_filter.proofs.Cross.{crossed-none, crossed-more, crossed-end}
+use Rattle.cross_filter.proofs.cross_run.Given as goal
+
+abbrev pub invariant-loop-i : goal.invariant-loop-i
+invariant-loop-i l = (l.i ≤ l.count) × CrossedRun l.from l.width l.i l.above l.mid l.initial.below l.below l.initial.map l.map
+
+abbrev pub decreases-loop-i : goal.decreases-loop-i
+decreases-loop-i l = l.count - l.i

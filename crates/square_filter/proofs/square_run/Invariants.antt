@@ -1,0 +1,14 @@
+-- `square_run` leaves the highest of three rows of threes, place by place: the invariant is `SquaredRun` up to the place reached.
+use mathlib.Core.Path.{ap, ◌∙◌}
+use Prim.Native.Nat.{ℕ, ◌-◌, ◌≤◌, max}
+use native.Mathlib.Omega.{arith}
+use borrow.Author.Rules.{rules}
+use Rattle.square_filter.specs.Square.{SquaredRun}
+use Rattle.square_filter.proofs.Square.{squared-none, squared-more, squared-end}
+use Rattle.square_filter.proofs.square_run.Given as goal
+
+abbrev pub invariant-loop-i : goal.invariant-loop-i
+invariant-loop-i l = (l.i ≤ l.count) × SquaredRun l.from l.width l.i l.initial.above l.mid l.above l.initial.map l.map
+
+abbrev pub decreases-loop-i : goal.decreases-loop-i
+decreases-loop-i l = l.count - l.i

@@ -1,0 +1,12 @@
+-- `mark_down` does so for every row: the invariant is `DownTo` the row reached.
+use Prim.Native.Nat.{◌-◌}
+use native.Mathlib.Omega.{arith}
+use borrow.Author.Rules.{rules}
+use Rattle.wide_reconstruct.proofs.Marks.{DownTo, down-none, down-more, down-all}
+use Rattle.wide_reconstruct.proofs.mark_down.Given as goal
+
+abbrev pub invariant-loop-y : goal.invariant-loop-y
+invariant-loop-y l = DownTo l.head l.map l.y l.initial.out l.row l.spare l.above l.out
+
+abbrev pub decreases-loop-y : goal.decreases-loop-y
+decreases-loop-y l = l.head.height - l.y

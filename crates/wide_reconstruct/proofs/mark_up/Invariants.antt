@@ -1,0 +1,11 @@
+-- `mark_up` does so for every row, from the last on: the invariant is `UpTo` the row reached.
+use native.Mathlib.Omega.{arith}
+use borrow.Author.Rules.{rules}
+use Rattle.wide_reconstruct.proofs.Marks.{UpTo, up_none, up_more, up-all}
+use Rattle.wide_reconstruct.proofs.mark_up.Given as goal
+
+abbrev pub invariant-loop-y : goal.invariant-loop-y
+invariant-loop-y l = UpTo l.head l.map l.y l.initial.out l.row l.spare l.below l.out
+
+abbrev pub decreases-loop-y : goal.decreases-loop-y
+decreases-loop-y l = l.y
