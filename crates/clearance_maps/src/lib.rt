@@ -1,5 +1,6 @@
 // Maps of one level, as calls: clearance, medial axis, reconstruction. Each tries its arguments first and writes only if it accepts them.
 #![tactic(auto)]
+
 ghost use Rattle.clearance_maps.specs.Calls.{ClearanceMap, AxisMap, Reconstruction};
 
 use refusal::Verdict;

@@ -1,7 +1,7 @@
 -- Laws of how a climb begins: the part of a region that is not bare, a climb that settles on it, and the climb of a relief before its first run.
 use mathlib.Core.Path.{◌≡◌, refl, sym, ap, ap₂, ◌∙◌, subst}
 use mathlib.Core.Logic.{◌⊎◌, inl, inr}
-use mathlib.Core.Bool.{Bool, true, false, true≢false, cond}
+use mathlib.Core.Bool.{Bool, true≢false, cond}
 use mathlib.Core.List.{List, [], ◌++◌, map, append-nil}
 use Prim.Native.Nat.{ℕ, ◌+◌, ◌*◌, ◌-◌, ◌≤◌, ◌<◌}
 use native.Mathlib.Omega.{arith}
@@ -12,7 +12,6 @@ use Rattle.geometry.specs.declared.Head.{Head}
 use Rattle.geometry.specs.Lists.{gather}
 use Rattle.geometry.specs.Plane.{cell}
 use Rattle.geometry.specs.Plate.{On, area, at}
-use Rattle.theory.specs.Erosion.{erosion}
 use Rattle.theory.specs.Climbed.{Bare}
 use Rattle.theory.specs.Listing.{listing}
 use Rattle.theory.proofs.Plate.{on-or-off, at-cell}

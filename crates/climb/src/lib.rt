@@ -1,5 +1,6 @@
 // The climb of a relief: residue after residue, in runs of places, each on the region of the plate where its erosion is not bare.
 #![tactic(auto)]
+
 ghost use Rattle.std.specs.Prelude.{◌≡◌, true, false, ◌-◌, ◌≤◌, length};
 ghost use Rattle.geometry.specs.Plate.{area};
 ghost use Rattle.theory.specs.Climbed.{Bare};

@@ -1,5 +1,6 @@
 // A pass in place for the highest of a diamond, with an edge: the row below is read as a row is written.
 #![tactic(auto)]
+
 ghost use Rattle.std.specs.Prelude.{◌≡◌, ◌+◌, ◌-◌, ◌*◌, ◌≤◌, ◌<◌};
 ghost use Rattle.geometry.specs.declared.Kind.TheVariants.{Diamond};
 ghost use Rattle.window.specs.Windows.{window_of};

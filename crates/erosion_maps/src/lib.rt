@@ -1,5 +1,6 @@
 // Maps of all levels at once, as calls: erosions, residues, scores, and the volume.
 #![tactic(auto)]
+
 ghost use Rattle.std.specs.Prelude.{◌≡◌, false, ◌≤◌, min, length, take};
 ghost use Rattle.geometry.specs.Lists.{sum};
 ghost use Rattle.erosion_series.specs.Pairs.{MapBuffers, MapFilled};

@@ -1,5 +1,6 @@
 // A series of erosions in two buffers, turn by turn, and the maps that it fills: an erosion, a residue, a score.
 #![tactic(auto)]
+
 ghost use Rattle.std.specs.Prelude.{◌%◌, ◌≤◌, ◌<◌};
 ghost use Rattle.theory.specs.Erosion.{erosion, residue};
 ghost use Rattle.refusal.specs.Refusals.{largest_erosion};

@@ -1,5 +1,6 @@
 // The residue of two erosions, joined to a score at each cell: of any map row by row, and of a map with a margin in one run.
 #![tactic(auto)]
+
 ghost use Rattle.std.specs.Prelude.{◌≡◌, ◌+◌, ◌-◌, ◌*◌, ◌≤◌, ◌<◌, length, get_or};
 ghost use Rattle.window.specs.Windows.{window_max};
 ghost use Rattle.window.specs.Places.{window_in};

@@ -1,6 +1,7 @@
 // The residues of a relief one after the other, in runs of places: a run is marked where its residue is above 0, while the erosion after next
 // is written over the erosion before, in two buffers.
 #![tactic(auto)]
+
 ghost use Rattle.std.specs.Prelude.{List, ℕ, ◌≤◌, length};
 ghost use Rattle.geometry.specs.Plate.{area};
 ghost use Rattle.residue_series.specs.Stands.{Due, Tops, PairMidway, Level, RunEnd, PairToSweep, PairSweep, LastResidue};

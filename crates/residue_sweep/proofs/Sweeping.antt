@@ -16,7 +16,7 @@ use lib.Seq.{get_or-set_same, get_or-set_other}
 use Rattle.geometry.specs.declared.Kind.{Kind}
 use Rattle.geometry.specs.declared.Kind.TheVariants.{Diamond, Square}
 use Rattle.geometry.specs.declared.Head.{Head}
-use Rattle.geometry.specs.Plane.{cell, west, east, north, south}
+use Rattle.geometry.specs.Plane.{cell, west, east, north}
 use Rattle.geometry.specs.Plate.{area, at}
 use Rattle.theory.proofs.Plate.{at-cell}
 use Rattle.window.specs.Windows.{window_of, window_min, window_max}

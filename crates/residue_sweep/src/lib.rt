@@ -1,6 +1,7 @@
 // Sweeps over places of two erosions, one after the other: each place with a residue above 0 is marked with its depth, and the erosion after
 // both is written over the first.
 #![tactic(auto)]
+
 ghost use Rattle.buffers.specs.Margin.{Margin};
 ghost use Rattle.residue_sweep.specs.Sweeps.{RunBuffers, EdgeBuffers, SweepBuffers, low_in, high_in, low_near, high_near, high_beside, Sweep};
 

@@ -1,5 +1,6 @@
 // A pass in place for the highest of a square, with an edge: the highest of nine by threes.
 #![tactic(auto)]
+
 ghost use Rattle.std.specs.Prelude.{◌≡◌, ◌+◌, ◌-◌, ◌*◌, ◌≤◌, ◌<◌, length};
 ghost use Rattle.geometry.specs.declared.Kind.TheVariants.{Square};
 ghost use Rattle.window.specs.Windows.{window_of};

@@ -12,7 +12,7 @@ use lib.Dec.{leb}
 use lib.ListN.{length, get_or, drop}
 use lib.Seq.{drop-append_seam}
 use Rattle.geometry.specs.declared.Head.{Head}
-use Rattle.geometry.specs.Plane.{Cell, cell, neighbours}
+use Rattle.geometry.specs.Plane.{Cell, neighbours}
 use Rattle.geometry.specs.Plate.{On, area, at, tabulated}
 use Rattle.window.specs.Windows.{window_of}
 use Rattle.window.proofs.Windows.{window-max-near}

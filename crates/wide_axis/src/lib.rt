@@ -1,6 +1,7 @@
 // The medial axis of a level in two bytes a cell, high byte first, for plates whose rows have up to 1,024 columns: the pass of
 // `row_filter` with 16-bit numbers.
 #![tactic(auto)]
+
 ghost use Rattle.std.specs.Prelude.{◌≡◌, ◌++◌, ◌+◌, ◌-◌, ◌*◌, ◌≤◌, ◌<◌, length, drop};
 ghost use Rattle.geometry.specs.Lists.{highest};
 ghost use Rattle.geometry.specs.Plane.{cell};

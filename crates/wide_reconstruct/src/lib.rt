@@ -1,6 +1,7 @@
 // Drawing back from a map of two bytes a number: 1 where some cell's number exceeds its distance, else 0. There is nowhere to keep 16-bit
 // numbers between the passes, so each pass makes them of the map anew and marks the cells that they reach.
 #![tactic(auto)]
+
 ghost use Rattle.std.specs.Prelude.{◌≡◌, ◌++◌, ◌+◌, ◌-◌, ◌≤◌, length, get_or, drop};
 ghost use Rattle.geometry.specs.Plate.{tabulated};
 ghost use Rattle.theory.specs.Levels.{reconstructed};

@@ -1,6 +1,7 @@
 // The clearance of each cell in two bytes, high byte first, for plates whose rows have up to 1,024 columns: the passes of
 // `distance_transform` with 16-bit numbers.
 #![tactic(auto)]
+
 ghost use Rattle.std.specs.Prelude.{◌≡◌, ◌++◌, ◌-◌, ◌*◌, ◌≤◌, length, get_or, drop};
 ghost use Rattle.geometry.specs.Plate.{area, tabulated};
 ghost use Rattle.theory.specs.Levels.{clearance};

@@ -1,5 +1,6 @@
 // A pass over a map in place: each number becomes what is made of its window.
 #![tactic(auto)]
+
 ghost use Rattle.std.specs.Prelude.{◌≡◌, true, ◌≤◌};
 ghost use Rattle.window.specs.Windows.{window_of};
 ghost use Rattle.buffers.specs.Fill.{Mapped};

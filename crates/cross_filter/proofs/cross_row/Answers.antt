@@ -2,7 +2,6 @@
 use Prim.Native.Nat.{◌+◌, ◌-◌, ◌*◌, ◌<◌}
 use lib.ListN.{length}
 use native.Mathlib.Omega.{arith}
-use borrow.Author.Rules.{rules}
 use Rattle.row_filter.proofs.InPlace.{row-and-below}
 use Rattle.cross_filter.proofs.cross_row.Goals as goal
 

@@ -1,9 +1,7 @@
 use mathlib.Core.Path.{◌∙◌}
-use Prim.Native.Nat.{◌-◌}
 use native.Mathlib.Omega.{arith}
-use borrow.Author.Rules.{rules}
 use Rattle.row_filter.specs.declared.Leaf.TheVariants as v
-use Rattle.row_filter.proofs.InPlace.{FilteredTo, done_all}
+use Rattle.row_filter.proofs.InPlace.{done_all}
 use Rattle.cross_filter.proofs.Cross.{crossed-to-none, crossed-to-more}
 use Rattle.cross_filter.proofs.cross_rows.Goals as goal
 

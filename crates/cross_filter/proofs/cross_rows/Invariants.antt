@@ -1,11 +1,7 @@
 -- `cross_rows` makes the highest of each window, row after row: the invariant is `FilteredTo` the row reached.
-use mathlib.Core.Path.{◌∙◌}
 use Prim.Native.Nat.{◌-◌}
-use native.Mathlib.Omega.{arith}
-use borrow.Author.Rules.{rules}
 use Rattle.row_filter.specs.declared.Leaf.TheVariants as v
-use Rattle.row_filter.proofs.InPlace.{FilteredTo, done_all}
-use Rattle.cross_filter.proofs.Cross.{crossed-to-none, crossed-to-more}
+use Rattle.row_filter.proofs.InPlace.{FilteredTo}
 use Rattle.cross_filter.proofs.cross_rows.Given as goal
 
 abbrev pub invariant-loop-y : goal.invariant-loop-y

@@ -1,10 +1,7 @@
 use mathlib.Core.Path.{refl, ap, ◌∙◌}
-use Prim.Native.Nat.{◌-◌, ◌≤◌}
 use native.Mathlib.Omega.{arith}
-use borrow.Author.Rules.{rules}
 use Rattle.geometry.specs.declared.Kind.TheVariants.{Diamond}
 use Rattle.window.specs.Windows.{window_max}
-use Rattle.cross_filter.specs.Cross.{CrossedRun}
 use Rattle.cross_filter.proofs.Cross.{crossed-none, crossed-more, crossed-end}
 use Rattle.cross_filter.proofs.cross_run.Goals as goal
 
@@ -12,12 +9,11 @@ pub loop-i-init : goal.loop-i-init
 loop-i-init c = (omega arith, crossed-none _ _ _ _ _ _)
 
 pub loop-i-preserved : goal.loop-i-preserved
-loop-i-preserved c =
-    (
-      omega arith,
-      crossed-more _ _ _ _ _ _ _ _ _ _ _ c.requires.some c.loop-i.invariant.1 (omega arith) (omega arith) refl
-          (c.window_max.ensures ∙ ap (window_max Diamond) c.cross_window.ensures),
-    )
+loop-i-preserved c = (
+  omega arith,
+  crossed-more _ _ _ _ _ _ _ _ _ _ _ c.requires.some c.loop-i.invariant.1 (omega arith) (omega arith) refl
+      (c.window_max.ensures ∙ ap (window_max Diamond) c.cross_window.ensures),
+)
 
 pub shape_of-map : goal.shape_of-map
 shape_of-map c = c.loop-i.invariant.1.map_is.same

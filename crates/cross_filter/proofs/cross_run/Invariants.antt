@@ -1,12 +1,6 @@
 -- `cross_run` makes the highest of each window and leaves the row below in its array: the invariant is `CrossedRun` up to the place reached.
-use mathlib.Core.Path.{refl, ap, ◌∙◌}
 use Prim.Native.Nat.{◌-◌, ◌≤◌}
-use native.Mathlib.Omega.{arith}
-use borrow.Author.Rules.{rules}
-use Rattle.geometry.specs.declared.Kind.TheVariants.{Diamond}
-use Rattle.window.specs.Windows.{window_max}
 use Rattle.cross_filter.specs.Cross.{CrossedRun}
-use Rattle.cross_filter.proofs.Cross.{crossed-none, crossed-more, crossed-end}
 use Rattle.cross_filter.proofs.cross_run.Given as goal
 
 abbrev pub invariant-loop-i : goal.invariant-loop-i

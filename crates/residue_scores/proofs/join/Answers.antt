@@ -1,6 +1,5 @@
 -- `join` is `joined_score`, by the score and by whether the sum fits a byte.
 use native.Mathlib.Omega.{arith}
-use borrow.Author.Rules.{rules}
 use Rattle.residue_scores.proofs.join.Goals as goal
 
 pub returns-in-Largest : goal.returns-in-Largest

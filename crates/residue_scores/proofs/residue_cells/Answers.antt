@@ -1,14 +1,11 @@
-use Prim.Native.Nat.{ℕ, ◌+◌, ◌*◌, ◌-◌, ◌≤◌, ◌<◌}
-use mathlib.Core.Path.{◌≡◌, refl, ◌∙◌, ap}
+use Prim.Native.Nat.{ℕ, ◌+◌, ◌*◌, ◌≤◌, ◌<◌}
+use mathlib.Core.Path.{refl, ◌∙◌, ap}
 use native.Mathlib.Omega.{arith}
-use borrow.Author.Rules.{rules}
 use Rattle.geometry.specs.Plane.{cell}
 use Rattle.window.specs.Windows.{window_max}
 use Rattle.window.proofs.Windows.{window-max-near}
-use Rattle.buffers.specs.Fill.{Filled}
 use Rattle.buffers.proofs.Fill.{filled_none}
 use Rattle.buffers.proofs.Rooms.{row_room, cell_room}
-use Rattle.residue_scores.specs.Residues.{scored_at}
 use Rattle.residue_scores.proofs.Residues.{join-as, cells-more, cells-end}
 use Rattle.residue_scores.proofs.residue_cells.Goals as goal
 

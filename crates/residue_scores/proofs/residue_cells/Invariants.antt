@@ -1,16 +1,8 @@
 -- `residue_cells` fills with joined residues, each cell by its own window: the invariant is `Filled` up to the column reached.
-use Prim.Native.Nat.{ℕ, ◌+◌, ◌*◌, ◌-◌, ◌≤◌, ◌<◌}
-use mathlib.Core.Path.{◌≡◌, refl, ◌∙◌, ap}
-use native.Mathlib.Omega.{arith}
-use borrow.Author.Rules.{rules}
-use Rattle.geometry.specs.Plane.{cell}
-use Rattle.window.specs.Windows.{window_max}
-use Rattle.window.proofs.Windows.{window-max-near}
+use Prim.Native.Nat.{◌+◌, ◌*◌, ◌-◌, ◌≤◌}
+use mathlib.Core.Path.{◌≡◌}
 use Rattle.buffers.specs.Fill.{Filled}
-use Rattle.buffers.proofs.Fill.{filled_none}
-use Rattle.buffers.proofs.Rooms.{row_room, cell_room}
 use Rattle.residue_scores.specs.Residues.{scored_at}
-use Rattle.residue_scores.proofs.Residues.{join-as, cells-more, cells-end}
 use Rattle.residue_scores.proofs.residue_cells.Given as goal
 
 abbrev pub invariant-loop-x : goal.invariant-loop-x

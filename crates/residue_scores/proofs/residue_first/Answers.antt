@@ -1,7 +1,5 @@
-use Prim.Native.Nat.{◌-◌, ◌≤◌}
-use mathlib.Core.Path.{◌≡◌, refl}
+use mathlib.Core.Path.{refl}
 use native.Mathlib.Omega.{arith}
-use Rattle.residue_scores.specs.Residues.{Scored}
 use Rattle.residue_scores.proofs.Residues.{scored-none, scored-more, scored-end}
 use Rattle.residue_scores.proofs.residue_first.Goals as goal
 
@@ -9,15 +7,14 @@ pub loop-row-init : goal.loop-row-init
 loop-row-init c = (omega arith, refl, scored-none _ _ _ _ _)
 
 pub residue_row-requires : goal.residue_row-requires
-residue_row-requires c =
-    (
-      omega arith,
-      record {
-        before = c.requires.before;
-        after = c.requires.after;
-        room = omega (arith, c.requires.room, c.loop-row.invariant.2.same);
-      },
-    )
+residue_row-requires c = (
+  omega arith,
+  record {
+    before = c.requires.before;
+    after = c.requires.after;
+    room = omega (arith, c.requires.room, c.loop-row.invariant.2.same);
+  },
+)
 
 pub loop-row-preserved : goal.loop-row-preserved
 loop-row-preserved c =

@@ -1,9 +1,7 @@
 -- `residue_first` goes row by row: the invariant is `Scored` up to the row reached.
 use Prim.Native.Nat.{◌-◌, ◌≤◌}
-use mathlib.Core.Path.{◌≡◌, refl}
-use native.Mathlib.Omega.{arith}
+use mathlib.Core.Path.{◌≡◌}
 use Rattle.residue_scores.specs.Residues.{Scored}
-use Rattle.residue_scores.proofs.Residues.{scored-none, scored-more, scored-end}
 use Rattle.residue_scores.proofs.residue_first.Given as goal
 
 abbrev pub invariant-loop-row : goal.invariant-loop-row

@@ -1,12 +1,10 @@
 -- `residue_row` fills one row: whole by windows at the plate's edge, else its two ends and the run between them.
 use Prim.Native.Nat.{◌+◌, ◌*◌, ◌≤◌}
 use native.Mathlib.Omega.{arith}
-use borrow.Author.Tests.{not-false}
 use lib.ListN.{length}
 use Rattle.window.specs.Places.{Inner}
 use Rattle.buffers.proofs.Rooms.{row_room, inner-interior}
 use Rattle.residue_scores.proofs.Residues.{row-whole, row-parts}
-use borrow.Author.Rules.{rules}
 use Rattle.residue_scores.proofs.residue_row.Goals as goal
 
 -- the row lies in the erosion before, and past the test it is an inner one

@@ -1,13 +1,7 @@
-use Prim.Native.Nat.{◌-◌, ◌≤◌}
 use mathlib.Core.Path.{◌∙◌, ap}
 use native.Mathlib.Omega.{arith}
-use borrow.Author.Rules.{rules}
-use lib.ListN.{get_or}
 use Rattle.window.specs.Windows.{window_max}
-use Rattle.window.specs.Places.{window_in}
-use Rattle.buffers.specs.Fill.{Filled}
 use Rattle.buffers.proofs.Fill.{filled_none, filled_more, filled-end}
-use Rattle.residue_scores.specs.Residues.{joined_score}
 use Rattle.residue_scores.proofs.Residues.{join-as}
 use Rattle.residue_scores.proofs.residue_run.Goals as goal
 
@@ -26,16 +20,15 @@ bounds-out-n-in-loop-n c =
     omega (arith, c.loop-n.invariant.2.same)
 
 pub loop-n-preserved : goal.loop-n-preserved
-loop-n-preserved c =
-    (
-      omega arith,
-      omega arith,
-      filled_more _ _ _ _ _ _ c.loop-n.invariant.2 (omega arith) (omega arith)
-          (join-as c.args.score c.join.result _ _ c.less-residue.result _
-          c.window_max.result _ c.join.ensures
-          (c.loop-n.invariant.2.over c.loop-n.n (omega arith)) c.less-residue.ensures
-          (c.window_max.ensures ∙ ap (window_max c.args.kind) c.window_in.ensures)),
-    )
+loop-n-preserved c = (
+  omega arith,
+  omega arith,
+  filled_more _ _ _ _ _ _ c.loop-n.invariant.2 (omega arith) (omega arith)
+      (join-as c.args.score c.join.result _ _ c.less-residue.result _
+      c.window_max.result _ c.join.ensures
+      (c.loop-n.invariant.2.over c.loop-n.n (omega arith)) c.less-residue.ensures
+      (c.window_max.ensures ∙ ap (window_max c.args.kind) c.window_in.ensures)),
+)
 
 pub shape_of-out : goal.shape_of-out
 shape_of-out c = c.loop-n.invariant.2.same

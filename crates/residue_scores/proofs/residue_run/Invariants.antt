@@ -1,15 +1,10 @@
 -- `residue_run` fills with joined residues: the invariant is `Filled` up to the place reached.
 use Prim.Native.Nat.{◌-◌, ◌≤◌}
-use mathlib.Core.Path.{◌∙◌, ap}
-use native.Mathlib.Omega.{arith}
-use borrow.Author.Rules.{rules}
 use lib.ListN.{get_or}
 use Rattle.window.specs.Windows.{window_max}
 use Rattle.window.specs.Places.{window_in}
 use Rattle.buffers.specs.Fill.{Filled}
-use Rattle.buffers.proofs.Fill.{filled_none, filled_more, filled-end}
 use Rattle.residue_scores.specs.Residues.{joined_score}
-use Rattle.residue_scores.proofs.Residues.{join-as}
 use Rattle.residue_scores.proofs.residue_run.Given as goal
 
 abbrev pub invariant-loop-n : goal.invariant-loop-n

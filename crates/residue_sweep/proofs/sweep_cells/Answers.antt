@@ -1,13 +1,12 @@
 use mathlib.Core.Path.{ap, ◌∙◌}
-use Prim.Native.Nat.{◌+◌, ◌-◌, ◌≤◌}
+use Prim.Native.Nat.{◌+◌}
 use native.Mathlib.Omega.{arith}
 use native.Mathlib.Nat.{mod-lt}
-use borrow.Author.Rules.{rules}
 use lib.ListN.{get_or}
 use Rattle.window.specs.Windows.{window_min, window_max}
 use Rattle.window.proofs.Windows.{window-min-near, window-max-near}
 use Rattle.residue_marks.specs.Marks.{mark_of}
-use Rattle.residue_sweep.specs.Sweeps.{place_cell, low_near, high_near, Sweep}
+use Rattle.residue_sweep.specs.Sweeps.{place_cell}
 use Rattle.residue_sweep.proofs.Sweeping.{place-row, sweep-none, sweep-more, sweep-end}
 use Rattle.residue_sweep.proofs.sweep_cells.Goals as goal
 

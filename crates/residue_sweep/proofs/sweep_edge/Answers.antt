@@ -1,11 +1,10 @@
-use borrow.Author.Rules.{rules}
 use Rattle.residue_sweep.proofs.Sweeping.{sweep-none, sweep-more, sweep-end}
 use Rattle.residue_marks.specs.Marks.{mark_of}
-use Rattle.residue_sweep.specs.Sweeps.{beside_window, high_beside, Sweep}
+use Rattle.residue_sweep.specs.Sweeps.{beside_window}
 use Rattle.window.specs.Windows.{window_max}
 use lib.ListN.{get_or}
 use native.Mathlib.Omega.{arith}
-use Prim.Native.Nat.{ℕ, ◌+◌, ◌-◌, ◌≤◌}
+use Prim.Native.Nat.{ℕ, ◌+◌, ◌-◌}
 use mathlib.Core.Path.{◌≡◌, refl, ap, ◌∙◌}
 use Rattle.residue_sweep.proofs.sweep_edge.Goals as goal
 

@@ -1,13 +1,6 @@
 -- `sweep_edge` sweeps place after place of a row along the border: the invariant is `Sweep` up to the place reached.
-use borrow.Author.Rules.{rules}
-use Rattle.residue_sweep.proofs.Sweeping.{sweep-none, sweep-more, sweep-end}
-use Rattle.residue_marks.specs.Marks.{mark_of}
-use Rattle.residue_sweep.specs.Sweeps.{beside_window, high_beside, Sweep}
-use Rattle.window.specs.Windows.{window_max}
-use lib.ListN.{get_or}
-use native.Mathlib.Omega.{arith}
-use Prim.Native.Nat.{ℕ, ◌+◌, ◌-◌, ◌≤◌}
-use mathlib.Core.Path.{◌≡◌, refl, ap, ◌∙◌}
+use Rattle.residue_sweep.specs.Sweeps.{high_beside, Sweep}
+use Prim.Native.Nat.{◌-◌, ◌≤◌}
 use Rattle.residue_sweep.proofs.sweep_edge.Given as goal
 
 abbrev pub invariant-loop-i : goal.invariant-loop-i

@@ -1,6 +1,5 @@
 use Rattle.residue_sweep.proofs.Sweeping.{flat_near, sweep-as, edge-top, edge-bottom}
 use native.Mathlib.Omega.{arith}
-use borrow.Author.Rules.{rules}
 use Rattle.residue_sweep.proofs.sweep_places.Goals as goal
 
 pub returns-then-end-width : goal.returns-then-end-width

@@ -1,11 +1,9 @@
 use mathlib.Core.Path.{ap, ◌∙◌}
-use Prim.Native.Nat.{◌+◌, ◌-◌, ◌≤◌}
+use Prim.Native.Nat.{◌+◌}
 use native.Mathlib.Omega.{arith}
-use borrow.Author.Rules.{rules}
 use lib.ListN.{get_or}
 use Rattle.window.specs.Windows.{window_min, window_max}
 use Rattle.residue_marks.specs.Marks.{mark_of}
-use Rattle.residue_sweep.specs.Sweeps.{low_in, high_in, Sweep}
 use Rattle.residue_sweep.proofs.Sweeping.{sweep-none, sweep-more, sweep-end}
 use Rattle.residue_sweep.proofs.sweep_run.Goals as goal
 

@@ -1,13 +1,6 @@
 -- `sweep_run` sweeps place after place: the invariant is `Sweep` up to the place reached.
-use mathlib.Core.Path.{ap, ◌∙◌}
-use Prim.Native.Nat.{◌+◌, ◌-◌, ◌≤◌}
-use native.Mathlib.Omega.{arith}
-use borrow.Author.Rules.{rules}
-use lib.ListN.{get_or}
-use Rattle.window.specs.Windows.{window_min, window_max}
-use Rattle.residue_marks.specs.Marks.{mark_of}
+use Prim.Native.Nat.{◌-◌, ◌≤◌}
 use Rattle.residue_sweep.specs.Sweeps.{low_in, high_in, Sweep}
-use Rattle.residue_sweep.proofs.Sweeping.{sweep-none, sweep-more, sweep-end}
 use Rattle.residue_sweep.proofs.sweep_run.Given as goal
 
 abbrev pub invariant-loop-i : goal.invariant-loop-i

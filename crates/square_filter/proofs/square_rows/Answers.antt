@@ -1,8 +1,6 @@
 use mathlib.Core.Path.{◌∙◌}
-use Prim.Native.Nat.{◌-◌}
 use native.Mathlib.Omega.{arith}
-use borrow.Author.Rules.{rules}
-use Rattle.square_filter.proofs.Square.{SquaredTo, squared-to-none, squared-to-more, squared-to-all}
+use Rattle.square_filter.proofs.Square.{squared-to-none, squared-to-more, squared-to-all}
 use Rattle.square_filter.proofs.square_rows.Goals as goal
 
 pub loop-y-init : goal.loop-y-init

@@ -1,9 +1,6 @@
 -- `square_rows` makes the highest of each window, row after row: the invariant is `SquaredTo` the row reached.
-use mathlib.Core.Path.{◌∙◌}
 use Prim.Native.Nat.{◌-◌}
-use native.Mathlib.Omega.{arith}
-use borrow.Author.Rules.{rules}
-use Rattle.square_filter.proofs.Square.{SquaredTo, squared-to-none, squared-to-more, squared-to-all}
+use Rattle.square_filter.proofs.Square.{SquaredTo}
 use Rattle.square_filter.proofs.square_rows.Given as goal
 
 abbrev pub invariant-loop-y : goal.invariant-loop-y

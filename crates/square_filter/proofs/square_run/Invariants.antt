@@ -1,10 +1,6 @@
 -- `square_run` leaves the highest of three rows of threes, place by place: the invariant is `SquaredRun` up to the place reached.
-use mathlib.Core.Path.{ap, ◌∙◌}
-use Prim.Native.Nat.{ℕ, ◌-◌, ◌≤◌, max}
-use native.Mathlib.Omega.{arith}
-use borrow.Author.Rules.{rules}
+use Prim.Native.Nat.{◌-◌, ◌≤◌}
 use Rattle.square_filter.specs.Square.{SquaredRun}
-use Rattle.square_filter.proofs.Square.{squared-none, squared-more, squared-end}
 use Rattle.square_filter.proofs.square_run.Given as goal
 
 abbrev pub invariant-loop-i : goal.invariant-loop-i

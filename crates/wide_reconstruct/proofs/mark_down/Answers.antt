@@ -1,7 +1,5 @@
-use Prim.Native.Nat.{◌-◌}
 use native.Mathlib.Omega.{arith}
-use borrow.Author.Rules.{rules}
-use Rattle.wide_reconstruct.proofs.Marks.{DownTo, down-none, down-more, down-all}
+use Rattle.wide_reconstruct.proofs.Marks.{down-none, down-more, down-all}
 use Rattle.wide_reconstruct.proofs.mark_down.Goals as goal
 
 pub loop-y-init : goal.loop-y-init

@@ -1,8 +1,6 @@
 -- `mark_down` does so for every row: the invariant is `DownTo` the row reached.
 use Prim.Native.Nat.{◌-◌}
-use native.Mathlib.Omega.{arith}
-use borrow.Author.Rules.{rules}
-use Rattle.wide_reconstruct.proofs.Marks.{DownTo, down-none, down-more, down-all}
+use Rattle.wide_reconstruct.proofs.Marks.{DownTo}
 use Rattle.wide_reconstruct.proofs.mark_down.Given as goal
 
 abbrev pub invariant-loop-y : goal.invariant-loop-y

@@ -1,7 +1,6 @@
 -- `mark_row` marks what a row's numbers reach, along the row and from the row beside.
 use Prim.Native.Nat.{◌+◌, ◌*◌, ◌≤◌}
 use native.Mathlib.Omega.{arith}
-use borrow.Author.Rules.{rules}
 use lib.ListN.{length}
 use Rattle.buffers.proofs.Rooms.{row_room}
 use Rattle.wide_rows.proofs.Wide.{room-wide, wide_room}
@@ -19,8 +18,7 @@ overflow_mul-y c =
 pub load_numbers-requires : goal.load_numbers-requires
 load_numbers-requires c =
     let row_read : 2 * (c.args.y * c.args.head.width + c.args.head.width) ≤ length c.args.map.now = wide_room c.args.map.now _
-    (row_room c.args.head.width c.args.y c.args.head.height _ c.requires.here (room-wide c.args.map.now _ c.requires.plates.read)) in
-    (
+    (row_room c.args.head.width c.args.y c.args.head.height _ c.requires.here (room-wide c.args.map.now _ c.requires.plates.read)) in (
       row_read,
       c.requires.plates.held.narrow,
       c.requires.row-margins,

@@ -1,11 +1,7 @@
 -- `mark_run` fills with marks: the invariant is `Filled` up to the place reached, which still has its old mark.
-use mathlib.Core.Path.{ap, ◌∙◌}
 use Prim.Native.Nat.{◌+◌, ◌-◌, ◌≤◌}
-use native.Mathlib.Omega.{arith}
-use borrow.Author.Rules.{rules}
 use lib.ListN.{get_or}
 use Rattle.buffers.specs.Fill.{Filled}
-use Rattle.buffers.proofs.Fill.{filled_none, filled_more, filled-end}
 use Rattle.row_arrays.specs.Rows.{margin}
 use Rattle.wide_reconstruct.specs.Marks.{marked}
 use Rattle.wide_reconstruct.proofs.mark_run.Given as goal

@@ -1,6 +1,5 @@
 use native.Mathlib.Omega.{arith}
-use borrow.Author.Rules.{rules}
-use Rattle.wide_reconstruct.proofs.Marks.{UpTo, up_none, up_more, up-all}
+use Rattle.wide_reconstruct.proofs.Marks.{up_none, up_more, up-all}
 use Rattle.wide_reconstruct.proofs.mark_up.Goals as goal
 
 pub loop-y-init : goal.loop-y-init

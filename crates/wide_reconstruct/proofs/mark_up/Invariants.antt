@@ -1,7 +1,5 @@
 -- `mark_up` does so for every row, from the last on: the invariant is `UpTo` the row reached.
-use native.Mathlib.Omega.{arith}
-use borrow.Author.Rules.{rules}
-use Rattle.wide_reconstruct.proofs.Marks.{UpTo, up_none, up_more, up-all}
+use Rattle.wide_reconstruct.proofs.Marks.{UpTo}
 use Rattle.wide_reconstruct.proofs.mark_up.Given as goal
 
 abbrev pub invariant-loop-y : goal.invariant-loop-y

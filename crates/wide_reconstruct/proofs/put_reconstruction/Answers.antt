@@ -1,5 +1,4 @@
 -- `put_reconstruction` gives the reconstruction: zeros, the marks of the way down, and those of the way up.
-use borrow.Author.Rules.{rules}
 use Rattle.wide_reconstruct.proofs.Marks.{marks-reconstructed}
 use Rattle.wide_reconstruct.proofs.put_reconstruction.Goals as goal
 

@@ -1,9 +1,8 @@
 use mathlib.Core.Path.{ap, ◌∙◌}
-use Prim.Native.Nat.{◌-◌, ◌/◌, ◌%◌, ◌≤◌}
+use Prim.Native.Nat.{◌-◌, ◌/◌, ◌%◌}
 use native.Mathlib.Omega.{arith}
-use borrow.Author.Rules.{rules}
-use lib.ListN.{get_or, length-set}
-use Rattle.wide_rows.specs.Wide.{wide_numbers, wide_wall, WideFilled}
+use lib.ListN.{length-set}
+use Rattle.wide_rows.specs.Wide.{wide_wall}
 use Rattle.wide_rows.proofs.Wide.{wide-none, wide-more, wide-next, wide-end}
 use Rattle.wide_transform.proofs.finish_run.Goals as goal
 

@@ -1,11 +1,7 @@
 -- `finish_run` stores what the numbers say: the invariant is `WideFilled` up to the number reached, which still has its old bytes.
-use mathlib.Core.Path.{ap, ◌∙◌}
-use Prim.Native.Nat.{◌-◌, ◌/◌, ◌%◌, ◌≤◌}
-use native.Mathlib.Omega.{arith}
-use borrow.Author.Rules.{rules}
-use lib.ListN.{get_or, length-set}
+use Prim.Native.Nat.{◌-◌, ◌≤◌}
+use lib.ListN.{get_or}
 use Rattle.wide_rows.specs.Wide.{wide_numbers, wide_wall, WideFilled}
-use Rattle.wide_rows.proofs.Wide.{wide-none, wide-more, wide-next, wide-end}
 use Rattle.wide_transform.proofs.finish_run.Given as goal
 
 abbrev pub invariant-loop-n : goal.invariant-loop-n

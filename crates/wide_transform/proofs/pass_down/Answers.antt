@@ -1,11 +1,6 @@
-use Prim.Native.Nat.{◌-◌}
 use native.Mathlib.Omega.{arith}
-use borrow.Author.Rules.{rules}
-use Rattle.row_arrays.specs.Start.{wall_number, start}
-use Rattle.wide_rows.specs.Wide.{wide_numbers, wide_wall}
 use Rattle.wide_rows.proofs.Wide.{room-wide, wide_fits}
-use Rattle.distance_transform.proofs.Passes.{DownTo, down-none, down-more, down-all}
-use Rattle.wide_transform.specs.Passes.{WideOnly}
+use Rattle.distance_transform.proofs.Passes.{down-none, down-more, down-all}
 use Rattle.wide_transform.proofs.Passes.{only_none, only-more}
 use Rattle.wide_transform.proofs.pass_down.Goals as goal
 

@@ -1,13 +1,9 @@
 -- `pass_down` does so for every row: the invariant is `DownTo` the row reached.
 use Prim.Native.Nat.{◌-◌}
-use native.Mathlib.Omega.{arith}
-use borrow.Author.Rules.{rules}
 use Rattle.row_arrays.specs.Start.{wall_number, start}
 use Rattle.wide_rows.specs.Wide.{wide_numbers, wide_wall}
-use Rattle.wide_rows.proofs.Wide.{room-wide, wide_fits}
-use Rattle.distance_transform.proofs.Passes.{DownTo, down-none, down-more, down-all}
+use Rattle.distance_transform.proofs.Passes.{DownTo}
 use Rattle.wide_transform.specs.Passes.{WideOnly}
-use Rattle.wide_transform.proofs.Passes.{only_none, only-more}
 use Rattle.wide_transform.proofs.pass_down.Given as goal
 
 abbrev pub invariant-loop-y : goal.invariant-loop-y

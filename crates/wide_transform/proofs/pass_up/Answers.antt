@@ -1,13 +1,10 @@
 use Prim.Native.Nat.{◌+◌, ◌-◌, ◌*◌, ◌≤◌}
 use native.Mathlib.Omega.{arith}
-use borrow.Author.Rules.{rules}
 use lib.ListN.{length}
 use Rattle.buffers.proofs.Rooms.{row_room}
 use Rattle.row_arrays.proofs.Rows.{row-zeros}
-use Rattle.wide_rows.specs.Wide.{wide_numbers}
 use Rattle.wide_rows.proofs.Wide.{room-wide, wide_room}
-use Rattle.distance_transform.proofs.Passes.{UpTo, up_none, up_more, up-all}
-use Rattle.wide_transform.specs.Passes.{WideOnly}
+use Rattle.distance_transform.proofs.Passes.{up_none, up_more, up-all}
 use Rattle.wide_transform.proofs.Passes.{only_none, only-more}
 use Rattle.wide_transform.proofs.pass_up.Goals as goal
 
@@ -27,8 +24,7 @@ pub load_numbers-requires : goal.load_numbers-requires
 load_numbers-requires c =
     let last_row : 2 * ((c.args.head.height - 1) * c.args.head.width + c.args.head.width) ≤ length c.args.out.now = wide_room c.args.out.now _
     (row_room c.args.head.width (c.args.head.height - 1) c.args.head.height _ (omega (arith, c.requires.0.tall))
-    (room-wide c.args.out.now _ c.requires.1)) in
-    (
+    (room-wide c.args.out.now _ c.requires.1)) in (
       last_row,
       c.requires.0.narrow,
       (row-zeros c.args.head.width).margins,

@@ -1,5 +1,4 @@
 -- `put_clearances` gives clearances: the way down, the way up, and what the numbers say.
-use borrow.Author.Rules.{rules}
 use Rattle.wide_transform.proofs.Passes.{wide-clearances}
 use Rattle.wide_transform.proofs.put_clearances.Goals as goal
 

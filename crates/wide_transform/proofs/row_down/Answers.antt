@@ -1,7 +1,6 @@
 -- `row_down` propagates a row over the rows up to it: along itself, then from the row above.
 use Prim.Native.Nat.{◌+◌, ◌*◌, ◌≤◌}
 use native.Mathlib.Omega.{arith}
-use borrow.Author.Rules.{rules}
 use lib.ListN.{length}
 use Rattle.buffers.proofs.Rooms.{row_room}
 use Rattle.wide_rows.specs.Wide.{wide_numbers}

@@ -1,7 +1,6 @@
 -- `row_up` propagates a row over all rows, from the row below.
 use Prim.Native.Nat.{◌+◌, ◌*◌, ◌≤◌}
 use native.Mathlib.Omega.{arith}
-use borrow.Author.Rules.{rules}
 use lib.ListN.{length}
 use Rattle.buffers.proofs.Rooms.{row_room}
 use Rattle.wide_rows.specs.Wide.{wide_numbers}
@@ -21,8 +20,7 @@ overflow_mul-y c =
 pub load_numbers-requires : goal.load_numbers-requires
 load_numbers-requires c =
     let row_within : c.args.y * c.args.head.width + c.args.head.width ≤ length (wide_numbers c.args.out.now) = row_room c.args.head.width c.args.y c.args.head.height _ c.requires.here c.requires.room in
-    let bytes-within : 2 * (c.args.y * c.args.head.width + c.args.head.width) ≤ length c.args.out.now = wide_room c.args.out.now _ (row_within) in
-    (
+    let bytes-within : 2 * (c.args.y * c.args.head.width + c.args.head.width) ≤ length c.args.out.now = wide_room c.args.out.now _ (row_within) in (
       bytes-within,
       c.requires.held.narrow,
       c.requires.row-margins,

@@ -1,0 +1,33 @@
+-- `reconstruct` answers by the first refusal met, and writes the transform's map if there is none.
+use mathlib.Core.Path.{◌≡◌, sym, ◌∙◌}
+use mathlib.Core.Bool.{false}
+use Rattle.theory.specs.Levels.{reconstructed}
+use Rattle.clearance_maps.specs.Calls.{reconstruct_verdict}
+use Rattle.clearance_maps.proofs.Calls.{by-shorter, accepted-plates, answered-accepted}
+use Rattle.clearance_maps.proofs.reconstruct.Goals as goal
+
+-- what was found is what is to be said
+
+pub transform-requires : goal.transform-requires
+transform-requires c =
+    let said : let given = c.args in
+    c.check_map-verdict.result ≡ reconstruct_verdict given.map.now given.kind given.width given.height given.out.now = let s = c.args in
+    by-shorter s.kind s.width s.height false s.map.now s.out.now _ c.smaller-shortest.ensures _
+    c.check_map-verdict.ensures in
+    let s = c.args in
+    let a = sym (said) ∙ c.in-Accepted.is in (
+      accepted-plates s.kind s.width s.height false s.map.now s.out.now a _
+          c.head_of.ensures,
+      tt,
+    )
+
+pub returns-in-Accepted : goal.returns-in-Accepted
+returns-in-Accepted c =
+    let said : let given = c.args in
+    c.check_map-verdict.result ≡ reconstruct_verdict given.map.now given.kind given.width given.height given.out.now = let s = c.args in
+    by-shorter s.kind s.width s.height false s.map.now s.out.now _ c.smaller-shortest.ensures _
+    c.check_map-verdict.ensures in
+    let s = c.args in
+    answered-accepted s.kind s.width s.height false s.map.now s.out.now
+    (sym (said) ∙ c.in-Accepted.is) (λ p. reconstructed p s.map.now)
+    _ _ c.head_of.ensures c.transform.ensures
