@@ -1,11 +1,11 @@
 -- Text written at a place of a buffer.
 use mathlib.Core.Path.{◌≡◌, refl, sym, ap, ap₂, ◌∙◌}
-use mathlib.Core.Bool.{Bool, true, false, cond, not}
+use mathlib.Core.Bool.{Bool, true, false, cond}
 use mathlib.Core.List.{List, [], ◌∷◌, ◌++◌, append_assoc, append-nil}
 use Prim.Native.Nat.{ℕ, suc, ◌+◌, ◌-◌, ◌≤◌, ◌<◌}
 use native.Mathlib.Numerals.{add-one, add-two}
 use native.Mathlib.Omega.{arith}
-use borrow.Author.Tests.{le-leb, lt-leb, leb-true, leb-false, eq-eqb, ne_eqb, not-true, not-false}
+use borrow.Author.Tests.{le-leb, lt-leb, leb-true, leb-false, eq-eqb, ne_eqb}
 use lib.Dec.{eqb, leb}
 use lib.ListN.{length, set, length-append}
 use lib.Seq.{sets-eq}
@@ -28,11 +28,11 @@ room-same at bytes l h = go (leb bytes (l - at)) refl
     go true e = sym (le-leb (at + bytes) l (omega (arith, leb-true bytes (l - at) e)))
     go false e = sym (lt-leb (at + bytes) l (omega (arith, leb-false bytes (l - at) e)))
 
-pub room : (at k l : ℕ) (b : Bool) → b ≡ leb (at + k) l → not b ≡ false → at + k ≤ l
-room at k l b e h = leb-true (at + k) l (sym e ∙ not-false b h)
+pub room : (at k l : ℕ) (b : Bool) → b ≡ leb (at + k) l → b ≡ true → at + k ≤ l
+room at k l b e h = leb-true (at + k) l (sym e ∙ h)
 
-pub no_room : (at k l : ℕ) (b : Bool) → b ≡ leb (at + k) l → not b ≡ true → l < at + k
-no_room at k l b e h = leb-false (at + k) l (sym e ∙ not-true b h)
+pub no_room : (at k l : ℕ) (b : Bool) → b ≡ leb (at + k) l → b ≡ false → l < at + k
+no_room at k l b e h = leb-false (at + k) l (sym e ∙ h)
 
 pub not-fitting : (bs old : List ℕ) (at k : ℕ) → length bs ≡ k → length old < at + k → Put bs old old at at
 not-fitting bs old at k e h = record { fitting = λ l. absurd (omega arith); other = λ l. (refl, refl); inside = omega arith }

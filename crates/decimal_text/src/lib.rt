@@ -1,5 +1,6 @@
 // A float as the shortest decimal text, which read again is that float.
 #![tactic(auto)]
+
 ghost use Rattle.std.specs.Prelude.{◌≡◌, cond, ◌+◌, ◌*◌, ◌/◌, ◌%◌, ◌^◌, ◌≤◌, ◌<◌, eqb, leb};
 ghost use Rattle.std.specs.Float.Ieee.Nearest.{closest};
 ghost use Rattle.decimal_text.specs.Digits.{one, parts_of, most_digits, shortest_digits};

@@ -1,5 +1,6 @@
 // A job's figures by its list: plunges and depths by reach, changes of the electrode, and the way from plunge to plunge.
 #![tactic(auto)]
+
 ghost use Rattle.std.specs.Prelude.{◌≡◌, cond, ◌≤◌, ◌<◌, eqb};
 ghost use Rattle.geometry.specs.declared.Kind.TheVariants.{Diamond};
 ghost use Rattle.geometry.specs.Plane.{dist};

@@ -1,5 +1,6 @@
 // Press motions: what the press does for one plunge of a file, by a sink table.
 #![tactic(auto)]
+
 ghost use Rattle.std.specs.Prelude.{◌≡◌, ◌<◌};
 ghost use Rattle.refusal.specs.Refusals.{first_met};
 ghost use Rattle.reading.specs.Reading.{total};

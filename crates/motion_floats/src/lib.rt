@@ -1,5 +1,6 @@
 // The scale, and the motions of one plunge in millimetres, to the last bit.
 #![tactic(auto)]
+
 ghost use Rattle.std.specs.Prelude.{◌≡◌, cond};
 ghost use Rattle.motion_floats.specs.Floats.{within, scale_in_range, change_width, travel_to, entry_motions};
 

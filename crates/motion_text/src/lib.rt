@@ -1,5 +1,6 @@
 // Press motions as text, a line for each; put into slices.
 #![tactic(auto)]
+
 ghost use Rattle.std.specs.Prelude.{[], ◌∷◌, ◌++◌, ◌+◌, ◌≤◌, length};
 ghost use Rattle.io.specs.Counts.{IsPrefixLen};
 ghost use Rattle.numerals.specs.Numerals.{Puts};

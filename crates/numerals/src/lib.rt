@@ -1,5 +1,6 @@
 // Whole numbers as text: digits in a base, and decimal numerals with no zeros in front.
 #![tactic(auto)]
+
 ghost use Rattle.std.specs.Prelude.{◌≡◌, ◌+◌, ◌≤◌, ◌<◌, length};
 ghost use Rattle.fields.specs.Writing.{spliced};
 ghost use Rattle.numerals.specs.Numerals.{digit_byte, digit_text, numeral, Puts};

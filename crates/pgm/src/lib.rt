@@ -1,5 +1,6 @@
 // PGM pictures, a byte for each sample. Nothing is asked of a file: it is read, or its first fault is named.
 #![tactic(auto)]
+
 ghost use Rattle.std.specs.Prelude.{◌≡◌, true, ◌+◌, ◌-◌, ◌*◌, ◌≤◌, min, length};
 ghost use Rattle.decimal.specs.Decimal.{is_digit};
 ghost use Rattle.pgm.specs.Pgm.{is_white, ends_comment, in_gap, in_comment, largest_number, gap_end, number_at, number_after, opens, header_in, area, count_within, first_fault, in_range, number_trials, numbers_trials, header_trials, raster_trials, sample_trials, picture_of, picture_answer};

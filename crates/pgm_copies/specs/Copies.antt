@@ -1,5 +1,5 @@
 -- To be believed: the scan that a picture becomes, and the picture that a scan becomes.
-use Rattle.std.specs.Prelude.{◌≡◌, cond, List, ◌∷◌, ◌++◌, ℕ, ◌+◌, ◌*◌, ltb, length, take, drop}
+use Rattle.std.specs.Prelude.{◌≡◌, cond, List, ◌∷◌, ◌++◌, ℕ, ◌*◌, ltb, length, take, drop}
 use Rattle.numerals.specs.Numerals.{numeral}
 use Rattle.phrases.specs.Phrases.{ascii}
 use Rattle.pgm.specs.declared.Picture.{Picture}

@@ -1,5 +1,6 @@
 // A picture as a scan, and depths as a picture, at the start of a buffer; where something is wrong the buffer stays as it was.
 #![tactic(auto)]
+
 ghost use Rattle.std.specs.Prelude.{◌≡◌, ◌≤◌, length};
 ghost use Rattle.io.specs.Counts.{IsPrefixLen};
 ghost use Rattle.phrases.specs.Phrases.{Appends};

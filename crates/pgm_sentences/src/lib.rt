@@ -1,5 +1,6 @@
 // A sentence for each fault of a picture, behind what a page holds.
 #![tactic(auto)]
+
 ghost use Rattle.std.specs.Prelude.{[], ◌++◌, ◌≤◌, length};
 ghost use Rattle.io.specs.Counts.{IsPrefixLen};
 ghost use Rattle.phrases.specs.Phrases.{Appends, ascii, phrase};

@@ -1,6 +1,6 @@
 -- To be believed: texts in ASCII, and a text put behind what a page holds.
 use Rattle.std.specs.Prelude.{◌≡◌, Bool, false, cond, not, List, ◌++◌, [] as nil, ◌∷◌ as cons, ℕ, ◌+◌, ◌-◌, ◌/◌, ◌%◌, min, eqb, ltb, length, take}
-use Prim.Native.Char.{Char, code}
+use Prim.Native.Char.{code}
 use Prim.Native.String.{String, [], ◌∷◌}
 use Rattle.fields.specs.Writing.{spliced}
 use Rattle.numerals.specs.Numerals.{numeral}

@@ -1,5 +1,6 @@
 // Texts in a page, one behind the other: bytes, whole numbers, names. What has no room is cut at the page's end.
 #![tactic(auto)]
+
 ghost use Rattle.std.specs.Prelude.{◌≡◌, ◌+◌, ◌≤◌, length};
 ghost use Rattle.io.specs.Counts.{IsPrefixLen};
 ghost use Rattle.numerals.specs.Numerals.{numeral, Puts};

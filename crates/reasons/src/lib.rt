@@ -1,5 +1,6 @@
 // What jobtool says behind the line of a refusal: what is wrong with a scan, a job file or a scale, and where; put into pages.
 #![tactic(auto)]
+
 ghost use Rattle.std.specs.Prelude.{◌≡◌, ◌-◌, ◌≤◌, length};
 ghost use Rattle.io.specs.Counts.{IsPrefixLen};
 ghost use Rattle.phrases.specs.Phrases.{Appends};

@@ -1,5 +1,6 @@
 // What is wrong with a field of a job file, or with its end, and where: a sentence for each fault, put into pages.
 #![tactic(auto)]
+
 ghost use Rattle.std.specs.Prelude.{◌≡◌, ◌≤◌, length};
 ghost use Rattle.io.specs.Counts.{IsPrefixLen};
 ghost use Rattle.reading_fields.specs.Openings.{length_at, number_at};

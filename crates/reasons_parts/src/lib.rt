@@ -1,5 +1,6 @@
 // What the sentences about scans and about job files share: bytes of a file as numbers, how files begin, the faults of a plate and of an answer.
 #![tactic(auto)]
+
 ghost use Rattle.std.specs.Prelude.{◌≡◌, ◌+◌, ◌≤◌, ◌<◌, length, get_or};
 ghost use Rattle.io.specs.Counts.{IsPrefixLen};
 ghost use Rattle.phrases.specs.Phrases.{Appends};

@@ -1,5 +1,6 @@
 // A scan as the program `plunges` reads it: kind, width and height, a byte each, then the depths.
 #![tactic(auto)]
+
 ghost use Rattle.std.specs.Prelude.{◌≡◌};
 ghost use Rattle.scan.specs.Scan.{byte_in, depths};
 

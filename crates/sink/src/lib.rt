@@ -1,5 +1,6 @@
 // Sink tables: how deep the press sinks for a plunge, by the table in force, its reach and depth.
 #![tactic(auto)]
+
 ghost use Rattle.std.specs.Prelude.{◌≡◌, ◌<◌, get_or};
 ghost use Rattle.sink.specs.Sink.{table_entries, built_in, plunge_sink, plunge_millimetres};
 ghost use Rattle.sink.specs.Rule.{breaks_rule};

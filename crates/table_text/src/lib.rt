@@ -1,5 +1,6 @@
 // What jobtool tells of a sink table: its entries, a line for each depth, or what is wrong with it; put into pages.
 #![tactic(auto)]
+
 ghost use Rattle.std.specs.Prelude.{◌≡◌, ◌+◌, ◌-◌, ◌/◌, ◌≤◌, length};
 ghost use Rattle.io.specs.Counts.{IsPrefixLen};
 ghost use Rattle.fields.specs.Fields.{opening};

@@ -1,5 +1,6 @@
 // Document 01's text of a list, a line for the plate, one for each plunge and the total, and of a refusal; put into slices.
 #![tactic(auto)]
+
 ghost use Rattle.std.specs.Prelude.{◌+◌, ◌≤◌, length};
 ghost use Rattle.io.specs.Counts.{IsPrefixLen};
 ghost use Rattle.numerals.specs.Numerals.{Puts};

@@ -1,5 +1,6 @@
 // The lines of document 01's text of a list and of a refusal, put at a place of a page.
 #![tactic(auto)]
+
 ghost use Rattle.std.specs.Prelude.{◌+◌, ◌≤◌, length};
 ghost use Rattle.io.specs.Counts.{IsPrefixLen};
 ghost use Rattle.numerals.specs.Numerals.{Puts};

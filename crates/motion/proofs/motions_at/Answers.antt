@@ -1,0 +1,33 @@
+-- `motions_at` takes the entry of the plunge's depth from the table that is lent.
+use Rattle.motion.proofs.Calls.{asked-below, not-moved, moves}
+use mathlib.Core.Path.{refl}
+use Rattle.motion.proofs.motions_at.Goals as goal
+
+pub is_changed-changed-requires : goal.is_changed-changed-requires
+is_changed-changed-requires c =
+    let given = c.args in (
+      c.requires,
+      asked-below given.file.now given.i given.scale given.job c.requires _
+          c.check_asked-asked.ensures c.in-Accepted.is,
+    )
+
+pub nth_plunge-q-requires : goal.nth_plunge-q-requires
+nth_plunge-q-requires c =
+    let given = c.args in (
+      c.requires,
+      asked-below given.file.now given.i given.scale given.job c.requires _
+          c.check_asked-asked.ensures c.in-Accepted.is,
+    )
+
+pub returns-in-Refused : goal.returns-in-Refused
+returns-in-Refused c =
+    let given = c.args in
+    not-moved given.table.now given.file.now given.i given.scale given.job c.requires _
+    c.check_asked-asked.ensures _ c.in-Refused.is
+
+pub returns-in-Accepted : goal.returns-in-Accepted
+returns-in-Accepted c =
+    let given = c.args in
+    moves given.table.now given.file.now given.i given.scale given.job c.requires _
+    c.check_asked-asked.ensures c.in-Accepted.is _ _ _ _
+    c.is_changed-changed.ensures c.nth_plunge-q.ensures refl c.motions_of.ensures

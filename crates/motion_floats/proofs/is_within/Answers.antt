@@ -1,0 +1,8 @@
+-- `is_within` tries both ends, each included.
+use Rattle.motion_floats.proofs.is_within.Goals as goal
+
+pub returns-then-low-x : goal.returns-then-low-x
+returns-then-low-x c = simp c.if-low-x.true
+
+pub returns-else-low-x : goal.returns-else-low-x
+returns-else-low-x c = simp c.if-low-x.false

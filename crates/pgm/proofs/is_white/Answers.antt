@@ -1,0 +1,12 @@
+-- `is_white` tries the blank, then the control characters.
+use borrow.Author.Tests.{le-leb, lt-leb, eq-eqb, ne_eqb}
+use Rattle.pgm.proofs.is_white.Goals as goal
+
+pub returns-then-b-eq32 : goal.returns-then-b-eq32
+returns-then-b-eq32 c = simp (eq-eqb _ _ c.if-b-eq32.true)
+
+pub returns-then-b-ge9 : goal.returns-then-b-ge9
+returns-then-b-ge9 c = simp (ne_eqb _ _ c.if-b-eq32.false, le-leb 9 _ c.if-b-ge9.true)
+
+pub returns-else-b-ge9 : goal.returns-else-b-ge9
+returns-else-b-ge9 c = simp (ne_eqb _ _ c.if-b-eq32.false, lt-leb 9 _ c.if-b-ge9.false)
