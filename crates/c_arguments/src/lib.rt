@@ -1,6 +1,7 @@
 // What a C call is given, as the calls inside take it: numbers of 32 bits, of which one that fits is kept and another becomes one that gets the
 // same refusal; and the struct of a scale. include/haruseopda.h is its manual.
 #![tactic(auto)]
+
 ghost use Rattle.std.specs.Prelude.{◌≡◌};
 ghost use Rattle.c_arguments.specs.Narrow.{narrow_byte, narrow_word, narrow_plate};
 ghost use Rattle.c_arguments.specs.Scale.{scale_of};

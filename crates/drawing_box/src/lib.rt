@@ -1,5 +1,6 @@
 // A box of a plate that holds the balls of a file's plunges, and the plunges as they lie on it, taken for a plate of its own.
 #![tactic(auto)]
+
 ghost use Rattle.std.specs.Prelude.{◌≡◌, ◌≤◌, ◌<◌};
 ghost use Rattle.geometry.specs.Forms.{largest_reach};
 ghost use Rattle.refusal.specs.Sides.{Sides};

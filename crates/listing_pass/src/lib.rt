@@ -1,5 +1,6 @@
 // A pass over the bytes of a file: they are written to an output, compared with a file, or staged.
 #![tactic(auto)]
+
 ghost use Rattle.std.specs.Prelude.{◌≡◌, ◌+◌, length, drop};
 ghost use Rattle.fields.specs.Lengths.{IsLength};
 ghost use Rattle.geometry.specs.Lists.{common};

@@ -1,5 +1,6 @@
 // The press port: eight bytes that the press maker reads, changed by the host's writes and the press's events.
 #![tactic(auto)]
+
 ghost use Rattle.std.specs.Prelude.{◌≡◌, ◌+◌, ◌<◌, min};
 ghost use Rattle.refusal.specs.declared.Verdict.TheVariants.{Accepted, Refused};
 ghost use Rattle.port.specs.Machine.{port_bytes, command_byte, largest_count, fresh, status, count, with_byte, with_count};

@@ -1,5 +1,6 @@
 // A run of the press port over a list of writes and events, given as bytes, in one call.
 #![tactic(auto)]
+
 ghost use Rattle.std.specs.Prelude.{◌≡◌, ◌+◌, ◌*◌, ◌≤◌, length};
 ghost use Rattle.refusal.specs.Refusals.{first_met};
 ghost use Rattle.port_run.specs.Traces.{trace_step, input_of, input_at, number_of, run_trials, TraceRun};

@@ -1,5 +1,6 @@
 // Reading a plunge file: its first fault in reading order, or its head and the number of its plunges.
 #![tactic(auto)]
+
 ghost use Rattle.std.specs.Prelude.{◌≡◌, suc, ◌+◌, ◌≤◌, ◌<◌, length};
 ghost use Rattle.refusal.specs.declared.Verdict.TheVariants.{Accepted};
 ghost use Rattle.refusal.specs.Refusals.{largest_side, first_met};

@@ -1,5 +1,6 @@
 // The opening of a field, and the end field: read, with their refusals.
 #![tactic(auto)]
+
 ghost use Rattle.std.specs.Prelude.{◌≡◌, [], ◌∷◌, ◌+◌, ◌≤◌, ltb, length};
 ghost use Rattle.refusal.specs.Refusals.{trial, first_met};
 ghost use Rattle.fields.specs.Fields.{opening, end_bytes};

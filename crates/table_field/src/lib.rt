@@ -1,5 +1,6 @@
 // A shop's sink table as a field: loaded in place of the table in force, and written.
 #![tactic(auto)]
+
 ghost use Rattle.std.specs.Prelude.{◌≡◌, ◌≤◌, length};
 ghost use Rattle.refusal.specs.declared.Verdict.TheVariants.{Accepted};
 ghost use Rattle.refusal.specs.Refusals.{first_met, Answered};
