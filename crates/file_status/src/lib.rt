@@ -2,7 +2,7 @@
 // written. No contract can say what the system answers: test_file_status shows it at work. Which names are handed over is proved.
 #![tactic(auto)]
 
-ghost use Rattle.std.specs.Prelude.{◌≡◌, true, false, IfOk};
+ghost use Rattle.std.specs.Prelude.{◌≡◌, ◌≤◌, true, false, IfOk};
 ghost use Rattle.io.specs.Counts.{IsPrefixLen};
 ghost use Rattle.file_status.specs.Names.{is_path, IsStatus};
 
@@ -39,7 +39,8 @@ pub struct FileStatus {
     pub group: u32,
 }
 
-const MISSING: FileStatus = FileStatus {
+// What is said of a name that is not found.
+pub const MISSING: FileStatus = FileStatus {
     found: false,
     mode: 0,
     owner: 0,
@@ -91,7 +92,8 @@ pub fn status_of(rt: &HostRuntime, name: &[u8]) -> FileStatus
 
 // How many of n bytes fit.
 fn fitting(n: usize, room: &[u8]) -> usize
-    ensures { IsPrefixLen result room.now }
+    ensures fits { IsPrefixLen result room.now }
+    ensures most { result ≤ n }
 {
     if n < room.len() { n } else { room.len() }
 }
