@@ -67,7 +67,7 @@ fn read_named(rt: &HostRuntime, number: usize, about: &[u8], buf: &mut [u8]) -> 
     ensures { IsPrefixLen result.bytes buf.new }
 {
     let mut name = io::buffer();
-    let word = words::word(rt, number, &mut name);
+    let word = words::fetch(rt, number, &mut name);
     let n = word.length;
     match open(rt, word, &name[..n]) {
         Ok(file) => {

@@ -2,7 +2,7 @@
 ghost use Rattle.std.specs.Prelude.{◌≤◌, ◌<◌, length};
 ghost use Rattle.io.specs.Counts.{IsPrefixLen};
 
-use crate::words::word;
+use crate::words::fetch;
 use std::random::RandomSource;
 
 // Whether the word with this number is there and is not "-", which stands for standard input or output.
@@ -11,7 +11,7 @@ pub fn is_name(rt: &HostRuntime, number: usize) -> bool {
         return false;
     }
     let mut text = [0u8; 2];
-    let n = word(rt, number, &mut text).length;
+    let n = fetch(rt, number, &mut text).length;
     !check::same(&text[..n], b"-")
 }
 
@@ -21,11 +21,11 @@ fn append_shown(rt: &HostRuntime, page: &mut [u8], at: usize, number: usize) -> 
     ensures { IsPrefixLen result page.new }
 {
     let mut name = io::buffer();
-    let got = word(rt, number, &mut name);
+    let got = fetch(rt, number, &mut name);
     let n = got.length;
     if got.cut {
         let mut begin = [0u8; 64];
-        word(rt, number, &mut begin);
+        fetch(rt, number, &mut begin);
         let begun = phrases::append_name(page, at, &begin);
         return phrases::append(page, begun, b"...");
     }

@@ -343,7 +343,7 @@ fn open_word(
 ) -> Output
     ensures { IsPrefixLen result.name name.new × IsPrefixLen result.part part.new }
 {
-    let word = words::word(rt, number, name);
+    let word = words::fetch(rt, number, name);
     let n = word.length;
     match seen(rt, word, &name[..n]) {
         Ok(before) => {

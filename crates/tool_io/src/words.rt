@@ -27,7 +27,7 @@ fn fitting(n: usize, room: &[u8]) -> usize
 }
 
 // Puts the word with this number at the start of a buffer.
-pub fn word(rt: &HostRuntime, number: usize, buf: &mut [u8]) -> Word
+pub fn fetch(rt: &HostRuntime, number: usize, buf: &mut [u8]) -> Word
     ensures { IsPrefixLen result.length buf.new }
 {
     match rt.arg(number, buf) {
@@ -64,7 +64,7 @@ pub fn whole(word: Word) -> Result<(), Error> {
 pub fn count(rt: &HostRuntime) -> usize {
     let mut first = [0u8; 1];
     for i in 0..usize::MAX {
-        let seen = word(rt, i, &mut first);
+        let seen = fetch(rt, i, &mut first);
         if seen.missing {
             return i;
         }
