@@ -1,5 +1,5 @@
 // An output: standard output, a device or a pipe written in place, or a file that takes its place when it is whole.
-ghost use Rattle.std.specs.Prelude.{◌≤◌};
+ghost use Rattle.std.specs.Prelude.{◌≡◌, ◌≤◌};
 ghost use Rattle.io.specs.Counts.{IsPrefixLen};
 
 use crate::messages::fail;
