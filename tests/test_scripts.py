@@ -1,9 +1,10 @@
 #!/usr/bin/env python3
-"""Runs ./jobtool, ./plunges and tools/build in a copy with stand-ins for rt and cc: what is built when, statuses, words; and the mains in C.
+"""Runs ./jobtool, ./plunges and tools/build in a copy with a stand-in for rt: what is built when, statuses, words.
 
     python3 tests/test_scripts.py --check    ends with 1 if a script does something else (the word may be left out)
 
-The stand-in for cc writes a program that echoes its arguments, copies its standard input, and ends in the ways that its arguments name.
+The stand-in for rt makes a program that echoes its arguments, copies its standard input, and ends in the ways that its arguments name.
+tests/test_programs.py runs the programs themselves.
 """
 import os
 import pty
@@ -16,24 +17,16 @@ import time
 
 TOP = os.path.join(os.path.dirname(os.path.abspath(__file__)), "..")
 RT = """#!/bin/sh
-if [ "$1" = doc ]; then echo "$KIT/docs/START-HERE.md"; exit 0; fi
-[ "$1" = staticlib ] || exit 2
-echo "$2" >> "$CALLS"
+crate=${PWD##*/}
+[ "$1" = run ] || exit 2
+echo "$crate $*" >> "$CALLS"
 [ -z "${RT_FAILS:-}" ] || { echo 'rt: a NOT PROVED'; exit 1; }
-echo 'rt: a proved (1 s)'
+echo 'logic=proved functions=1'
 sleep "${RT_SLEEPS:-0}"
-mkdir -p target/staticlib
-echo archive > "target/staticlib/lib$2.a"
-echo "rt: $2 proved (1 s)"
-"""
-CC = """#!/bin/sh
-[ -z "${CC_FAILS:-}" ] || { echo 'cc: undefined reference'; exit 1; }
-[ "$1 $2" = '-O2 -o' ] || exit 3
-made=$3
-shift 3
-for file do [ -s "$file" ] || { echo "cc: no $file"; exit 4; }; done
-echo "${1##*/} ${2##*/} ${3##*/} $#" > "$LINKED"
-cat > "$made" <<'PROGRAM'
+echo 'logic=proved functions=2'
+[ -z "${RT_MAKES_NONE:-}" ] || exit 0
+mkdir -p out
+cat > "out/$crate" <<'PROGRAM'
 #!/bin/sh
 case ${1:-} in
     end) echo "${3:-}" >&2; exit "$2" ;;
@@ -43,9 +36,12 @@ case ${1:-} in
     *) echo "ran $*" ;;
 esac
 PROGRAM
-chmod +x "$made"
+chmod +x "out/$crate"
+shift
+[ "${1:-}" != -- ] || shift
+"out/$crate" "$@"
 """
-NEEDED = "awk cat chmod dirname find grep head mkdir mv readlink sleep tail".split()
+NEEDED = "awk cat chmod cp dirname find grep head mkdir mv readlink sleep tail".split()
 FAULTS = []
 
 
@@ -70,17 +66,16 @@ class Tree:
 
     def __init__(self, folder):
         self.folder, self.top, self.bin = folder, os.path.join(folder, "repository"), os.path.join(folder, "bin")
-        for sub in ("repository/tools", "repository/crates/a/src", "repository/programs", "bin", "kit/lib"):
+        for sub in ("repository/tools", "repository/crates/a/src", "repository/crates/run_jobtool/src", "repository/crates/run_plunges", "bin"):
             os.makedirs(os.path.join(folder, sub))
-        for name in ("jobtool", "plunges", "tools/build", "tools/KIT-ID", "programs/jobtool.c", "programs/plunges.c"):
+        for name in ("jobtool", "plunges", "tools/build", "tools/KIT-ID", "crates/run_plunges/stdin"):
             shutil.copy2(os.path.join(TOP, name), os.path.join(self.top, name))
         for name in NEEDED:
             os.symlink(shutil.which(name), os.path.join(self.bin, name))
-        self.write("crates.txt", "a: io # a library\njobtool: io a\nplunges: a\n")
+        self.write("crates.txt", "a: io # a library\nrun_jobtool: io a\nrun_plunges: a\n")
         self.write("crates/a/src/lib.rt", "// a\n")
-        put(os.path.join(folder, "kit/lib/libos_c.a"), "archive\n")
+        self.write("crates/run_jobtool/src/main.rt", "// a main\n")
         put(os.path.join(self.bin, "rt"), RT, 0o755)
-        put(os.path.join(self.bin, "cc"), CC, 0o755)
 
     def write(self, name, text):
         put(os.path.join(self.top, name), text)
@@ -89,7 +84,7 @@ class Tree:
         return os.path.join(self.folder, name)
 
     def environment(self, **more):
-        return dict(os.environ, PATH=self.bin, CALLS=self.noted("calls"), LINKED=self.noted("linked"), KIT=self.noted("kit"), **more)
+        return dict(os.environ, PATH=self.bin, CALLS=self.noted("calls"), **more)
 
     def run(self, *words, script="jobtool", given=b"", **more):
         ran = subprocess.run([os.path.join(self.top, script), *words], input=given, capture_output=True, env=self.environment(**more), check=False)
@@ -106,7 +101,7 @@ class Tree:
         return ran
 
     def built(self):
-        return len(get(self.noted("calls")).split()) if os.path.exists(self.noted("calls")) else 0
+        return len(get(self.noted("calls")).splitlines()) if os.path.exists(self.noted("calls")) else 0
 
 
 # ---- building
@@ -114,10 +109,10 @@ class Tree:
 def building(tree):
     """Built once, of the right parts; again after any change."""
     expect("first run", tree.run("a", "b c"), (0, "ran a b c\n", ""))
-    expect("parts", get(tree.noted("linked")), "jobtool.c libjobtool.a libos_c.a 3\n")
+    expect("call", get(tree.noted("calls")), "run_jobtool run -- --version\n")
     expect("second run", tree.run(), (0, "ran \n", ""))
     expect("builds", tree.built(), 1)
-    for count, name in enumerate(("crates/a/src/lib.rt", "crates.txt", "programs/jobtool.c", "tools/KIT-ID"), 2):
+    for count, name in enumerate(("crates/a/src/lib.rt", "crates.txt", "crates/run_jobtool/src/main.rt", "tools/KIT-ID"), 2):
         time.sleep(0.02)
         tree.write(name, get(os.path.join(tree.top, name)) + "\n")
         tree.run()
@@ -134,26 +129,22 @@ def building(tree):
 
 
 def failing(tree):
-    """What cannot be built is said, with 2; what stands is run without rt and cc."""
-    for name in ("rt", "cc"):
-        expect(f"current, without {name}", tree.without(name), (0, "ran \n", ""))
+    """What cannot be built is said, with 2; what stands is run without rt."""
+    expect("current, without rt", tree.without("rt"), (0, "ran \n", ""))
     tree.forget()
-    for name in ("rt", "cc"):
-        status, said, why = tree.without(name)
-        expect(f"not built, without {name}", (status, said, f"no {name} on the PATH" in why), (2, "", True))
-    for fails, words in (("RT_FAILS", "NOT PROVED"), ("CC_FAILS", "undefined reference")):
+    status, said, why = tree.without("rt")
+    expect("not built, without rt", (status, said, "no rt on the PATH" in why), (2, "", True))
+    expect("no such program", tree.run("other", script="tools/build")[:2], (2, ""))
+    shutil.rmtree(os.path.join(tree.top, "crates/run_jobtool/out"))
+    for fails, words in (("RT_FAILS", "NOT PROVED"), ("RT_MAKES_NONE", "jobtool was not built")):
         status, said, why = tree.run(**{fails: "1"})
         expect(fails, (status, said, words in why, "target/jobtool.log" in why), (2, "", True, True))
     expect("after a failure", tree.run("x"), (0, "ran x\n", ""))
     time.sleep(0.02)
     tree.write("crates/a/src/lib.rt", "// another\n")
-    expect("changed, and cc fails", tree.run("x", CC_FAILS="1")[:2], (2, ""))
+    expect("changed, and rt fails", tree.run("x", RT_FAILS="1")[:2], (2, ""))
     before = tree.built()
     expect("changed, and built", (tree.run("x"), tree.built()), ((0, "ran x\n", ""), before + 1))
-    os.remove(tree.noted("kit/lib/libos_c.a"))
-    tree.forget()
-    expect("a kit without its code", tree.run()[:2], (2, ""))
-    put(tree.noted("kit/lib/libos_c.a"), "archive\n")
 
 
 def terminal(tree):
@@ -206,58 +197,17 @@ def signals(tree):
     expect("ended by a signal", script.wait(), -signal.SIGTERM)
 
 
-# ---- the mains in C
-
-STUBS = {
-    "jobtool": """#include <stddef.h>
-#include <stdint.h>
-#include <stdlib.h>
-uint32_t jobtool(uint8_t *i, size_t n, uint8_t *o, size_t m, uint8_t *a, size_t x, uint8_t *b, size_t y, uint8_t *c, size_t z)
-{
-    if (n != 1048576 || m != 1048576 || x != 57600 || y != 57600 || z != 57600) return 99;
-    i[n - 1] = o[m - 1] = a[x - 1] = b[y - 1] = c[z - 1] = 1;
-    return (uint32_t) atoi(getenv("STATUS"));
-}
-""",
-    "plunges": """#include <stddef.h>
-#include <stdint.h>
-#include <stdlib.h>
-uint32_t plunges(uint8_t *s, size_t n, uint8_t *t, size_t m)
-{
-    if (n != 57603) return 99;
-    s[n - 1] = t[m - 1] = 1;
-    return (uint32_t) atoi(getenv("STATUS"));
-}
-"""}
-
-
-def mains(tree):
-    """Each main hands on buffers of the right sizes and the status; that of plunges takes no words."""
-    if not shutil.which("cc"):
-        print("test_scripts: no cc: the mains in C were not tried")
-        return
-    for name, stub in STUBS.items():
-        made = tree.noted(f"main-{name}")
-        put(f"{made}.c", stub)
-        subprocess.run(["cc", "-O2", "-Wall", "-Werror", "-o", made, os.path.join(TOP, "programs", f"{name}.c"), f"{made}.c"], check=True)
-        for status in range(3):
-            ran = subprocess.run([made], env=dict(os.environ, STATUS=str(status)), capture_output=True, check=False)
-            expect(f"{name}: status {status}", (ran.returncode, ran.stdout, ran.stderr), (status, b"", b""))
-    ran = subprocess.run([tree.noted("main-plunges"), "coin.scan"], env=dict(os.environ, STATUS="0"), capture_output=True, check=False)
-    expect("plunges with a word, in C", (ran.returncode, ran.stdout, ran.stderr.startswith(b"usage: plunges < SCAN")), (2, b"", True))
-
-
 def main():
     with tempfile.TemporaryDirectory() as folder:
         tree = Tree(folder)
         if not os.access(os.path.join(tree.bin, "rt"), os.X_OK):
             print("test_scripts: nothing can be run in the folder for temporary files: the scripts were not tried")
             return
-        for part in (building, failing, terminal, statuses, signals, mains):
+        for part in (building, failing, terminal, statuses, signals):
             part(tree)
     for fault in FAULTS:
         print(f"test_scripts: {fault}")
-    print(f"test_scripts: jobtool, plunges, tools/build and the mains in C, {len(FAULTS)} faults")
+    print(f"test_scripts: jobtool, plunges and tools/build, {len(FAULTS)} faults")
     sys.exit(bool(FAULTS))
 
 

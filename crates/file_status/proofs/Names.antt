@@ -10,7 +10,6 @@ use borrow.Author.Tests.{lt-ltb, le-ltb, ltb-true, not-false, eq-eqb, ne_eqb}
 use lib.Dec.{ltb}
 use lib.ListN.{length, get_or, set, take, drop, replicate, length-replicate, get_or-replicate, replicate-append-replicate, drop_of_length-le}
 use lib.Seq.{drop-cons, take-length, take-suc, drop_at, set_at, append_snoc, length-take-le, get_or-append-add}
-use Rattle.libc.specs.Io.{Ended}
 use Rattle.file_status.specs.Names.{path_room, no_zero, is_path, path_of, IsStatus}
 
 -- ---- tried
@@ -87,7 +86,7 @@ copied_all name path i short inv h =
 
 -- ---- ended
 
-pub path-ends : (name : List ℕ) → length name < path_room → Ended (path_of name)
+pub path-ends : (name : List ℕ) → length name < path_room → get_or (path_of name) 4095 1 ≡ 0
 path-ends name h =
     let n : ℕ = length name in
     let e : n + (4095 - n) ≡ 4095 = omega (arith, h) in

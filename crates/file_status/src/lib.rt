@@ -1,18 +1,36 @@
 // What a file name stands for, asked of the system: a file's kind, permissions and owner, where a link leads, whether it may be
-// written. No contract can say what a system call answers: test_file_status shows it at work. Which names are handed over is proved.
+// written. No contract can say what the system answers: test_file_status shows it at work. Which names are handed over is proved.
 #![tactic(auto)]
-ghost use Rattle.std.specs.Prelude.{◌≡◌, false};
+
+ghost use Rattle.std.specs.Prelude.{◌≡◌, ◌≤◌, true, false, IfOk};
 ghost use Rattle.io.specs.Counts.{IsPrefixLen};
 ghost use Rattle.file_status.specs.Names.{is_path, IsStatus};
 
-mod path;
-mod system;
+pub mod path;
 
-use path::{is_path, path_of};
-use system::{stat_path, zero_stat};
+use path::is_path;
+use std::fs;
+use std::fs::{File, OpenOptions};
+use std::io::{Error, ErrorKind};
+use std::os::unix::fs::MetadataExt;
+use std::path::PathBuf;
 
-// What the system says of a name: whether there is a file, its kind and permissions (C's st_mode; `mode & libc::S_IFMT` is the
-// kind), its owner and its group.
+// The bits of C's st_mode that are a file's kind, and the kinds.
+pub const KIND: u32 = 0o170000;
+
+pub const REGULAR: u32 = 0o100000;
+
+pub const FOLDER: u32 = 0o040000;
+
+pub const DEVICE: u32 = 0o020000;
+
+pub const PIPE: u32 = 0o010000;
+
+// C's EILSEQ: a name that is no UTF-8, which is how std takes names.
+const NO_TEXT: i32 = 84;
+
+// What the system says of a name: whether there is a file, its kind and permissions (C's st_mode; `mode & KIND` is the kind), its
+// owner and its group.
 #[derive(Clone, Copy)]
 pub struct FileStatus {
     pub found: bool,
@@ -21,54 +39,147 @@ pub struct FileStatus {
     pub group: u32,
 }
 
-const MISSING: FileStatus = FileStatus {
+// What is said of a name that is not found.
+pub const MISSING: FileStatus = FileStatus {
     found: false,
     mode: 0,
     owner: 0,
     group: 0,
 };
 
-// libc::stat, which follows links. Where the call fails, found is false and os::errno says why. A name that is no path is not found
-// either, and errno then says nothing.
-pub fn status_of(name: &[u8]) -> FileStatus
+// A name as std takes it: text. Of one that is none no file can be asked for.
+pub fn text_of(name: &[u8]) -> Result<&str, Error> {
+    match std::str::from_utf8(name) {
+        Ok(text) => Ok(text),
+        Err(_) => Err(Error::from_raw_os_error(NO_TEXT)),
+    }
+}
+
+// What the system says of a name, links followed, or why it says nothing.
+pub fn find(rt: &HostRuntime, name: &[u8]) -> Result<FileStatus, Error>
+    ensures { IfOk result (λ status. status.found ≡ true) }
+{
+    let text = match text_of(name) {
+        Ok(text) => text,
+        Err(error) => return Err(error),
+    };
+    let seen = match fs::metadata(rt, text) {
+        Ok(seen) => seen,
+        Err(error) => return Err(error),
+    };
+    Ok(FileStatus {
+        found: true,
+        mode: seen.mode(),
+        owner: seen.uid(),
+        group: seen.gid(),
+    })
+}
+
+// The same, where it does not matter why a file is not found. A name that is no path is not found either.
+pub fn status_of(rt: &HostRuntime, name: &[u8]) -> FileStatus
     ensures { IsStatus name.now result }
 {
     if !is_path(name) {
         return MISSING;
     }
-    let path = path_of(name);
-    let answer = stat_path(&path, zero_stat());
-    if answer.status < 0 {
-        return MISSING;
-    }
-    FileStatus {
-        found: true,
-        mode: answer.mode,
-        owner: answer.owner,
-        group: answer.group,
+    match find(rt, name) {
+        Ok(status) => status,
+        Err(_) => MISSING,
     }
 }
 
-// libc::readlink: puts where a link leads at the start of target, as much as fits, and gives how many bytes these are: 0 where the
-// name is no link, or cannot be read. Where target is full, the rest may be missing.
-pub fn link_target(name: &[u8], target: &mut [u8]) -> usize
+// ---- links
+
+// How many of n bytes fit.
+fn fitting(n: usize, room: &[u8]) -> usize
+    ensures fits { IsPrefixLen result room.now }
+    ensures most { result ≤ n }
+{
+    if n < room.len() { n } else { room.len() }
+}
+
+// As much of a text as fits.
+fn put_start(target: &mut [u8], text: &[u8]) -> usize
+    ensures { IsPrefixLen result target.new }
+{
+    let n = fitting(text.len(), target);
+    let mut i = 0;
+    while i < n {
+        target[i] = text[i];
+        i += 1;
+    }
+    n
+}
+
+fn target_of(rt: &HostRuntime, name: &[u8]) -> Result<PathBuf, Error> {
+    let text = match text_of(name) {
+        Ok(text) => text,
+        Err(error) => return Err(error),
+    };
+    fs::read_link(rt, text)
+}
+
+// Puts where a link leads at the start of target, as much as fits, and gives how many bytes these are: 0 where the name is no link, or
+// cannot be read, as where the link leads to a name that is no UTF-8. Where target is full, the rest may be missing.
+pub fn link_target(rt: &HostRuntime, name: &[u8], target: &mut [u8]) -> usize
     ensures { IsPrefixLen result target.new × (is_path name.now ≡ false → result ≡ 0) }
 {
     if !is_path(name) {
         return 0;
     }
-    let path = path_of(name);
-    let got = libc::readlink(&path, target);
-    io::count(got, target)
+    match target_of(rt, name) {
+        Ok(link) => put_start(target, link.as_str().as_bytes()),
+        Err(_) => 0,
+    }
 }
 
-// libc::access: whether the process's real user may write the file.
-pub fn is_writable(name: &[u8]) -> bool
+// Whether a name is that of a link itself.
+pub fn is_link(rt: &HostRuntime, name: &[u8]) -> bool {
+    match text_of(name) {
+        Ok(text) => match fs::symlink_metadata(rt, text) {
+            Ok(seen) => seen.is_symlink(),
+            Err(_) => false,
+        },
+        Err(_) => false,
+    }
+}
+
+// ---- writing
+
+// How a file is opened to see whether it may be written. A pipe that is opened for both does not wait for a reader.
+fn open_for_writing(rt: &HostRuntime, text: &str, kind: u32) -> Result<File, Error> {
+    let mut options = OpenOptions::new();
+    options.write(true);
+    options.read(kind == PIPE);
+    options.open(rt, text)
+}
+
+// Whether the process may write the file: it is opened for writing, and closed as it was. If not, why. A program that is running may not
+// be written, but its file may be replaced.
+pub fn try_writing(rt: &HostRuntime, name: &[u8]) -> Result<(), Error> {
+    let text = match text_of(name) {
+        Ok(text) => text,
+        Err(error) => return Err(error),
+    };
+    let status = status_of(rt, name);
+    match open_for_writing(rt, text, status.mode & KIND) {
+        Ok(_) => Ok(()),
+        Err(error) => match error.kind() {
+            ErrorKind::ExecutableFileBusy => Ok(()),
+            _ => Err(error),
+        },
+    }
+}
+
+// The same, where it does not matter why it may not be written.
+pub fn is_writable(rt: &HostRuntime, name: &[u8]) -> bool
     ensures { is_path name.now ≡ false → result ≡ false }
 {
     if !is_path(name) {
         return false;
     }
-    let path = path_of(name);
-    libc::access(&path, libc::W_OK) == 0
+    match try_writing(rt, name) {
+        Ok(()) => true,
+        Err(_) => false,
+    }
 }

@@ -2,7 +2,8 @@
 ghost use Rattle.std.specs.Prelude.{◌≡◌, ◌<◌, length};
 ghost use Rattle.file_status.specs.Names.{is_path, path_room, path_of};
 
-use libc::PATH_MAX;
+// C's PATH_MAX: the bytes of a path, with the 0 that ends it.
+pub const PATH_MAX: usize = 4096;
 
 // Whether C can be handed all of a name: at most 4,095 bytes, none of them 0. One that is cut short names another file.
 pub fn is_path(name: &[u8]) -> bool

@@ -1,5 +1,6 @@
-// The shop's tool over job files. A main in C lends it memory and hands its status to the system, which a program of this language cannot.
+// The shop's tool over job files. The program lends it memory and the system, and hands its status on.
 #![tactic(auto)]
+
 mod help;
 mod moves;
 mod refusals;
@@ -8,11 +9,15 @@ mod tables;
 ghost use Rattle.std.specs.Prelude.{◌≤◌};
 
 use comparison::Comparison;
-use libc::STDERR_FILENO;
 use listing::Extent;
 use motion_floats::Scale;
 use tool_answers::Outcome;
 use tool_words::Command;
+
+// Standard output and standard error.
+const STDOUT: i32 = 1;
+
+const STDERR: i32 = 2;
 
 // What is asked: a command, its scale, the sink table in force, the kind of a scan that is made, whether the rungs climbed are told, which plain
 // word is the first input, and whether what is told is headed by its input's name.
@@ -45,21 +50,21 @@ fn print_bytes(fd: i32, out: &[u8], n: usize) -> bool {
 }
 
 // The input's name, before what is told of it.
-fn print_heading(fd: i32, number: usize, after: &[u8]) -> bool {
+fn print_heading(rt: &HostRuntime, fd: i32, number: usize, after: &[u8]) -> bool {
     let mut page = io::large_buffer();
-    let n = tool_io::names::heading(&mut page, number, after);
+    let n = tool_io::names::heading(rt, &mut page, number, after);
     io::write_all(fd, &page[..n])
 }
 
-fn print_headed(fd: i32, request: Request, number: usize) -> bool {
+fn print_headed(rt: &HostRuntime, fd: i32, request: Request, number: usize) -> bool {
     if !request.headed {
         return true;
     }
     let command = request.command;
     match command {
-        Command::Check => print_heading(fd, number, b": "),
-        Command::Show => print_heading(fd, number, b":\n"),
-        Command::Info => print_heading(fd, number, b":\n"),
+        Command::Check => print_heading(rt, fd, number, b": "),
+        Command::Show => print_heading(rt, fd, number, b":\n"),
+        Command::Info => print_heading(rt, fd, number, b":\n"),
         Command::Motions => true,
         Command::Table => true,
         Command::List => true,
@@ -98,6 +103,7 @@ fn print_answer(fd: i32, request: Request, input: &[u8], out: &[u8], n: usize) -
 
 // Writes an answer; says why where it cannot be written.
 fn deliver(
+    rt: &HostRuntime,
     fd: i32,
     about: &[u8],
     request: Request,
@@ -108,14 +114,14 @@ fn deliver(
 ) -> u32
     ensures { result ≤ 2 }
 {
-    if !print_headed(fd, request, number) {
-        os::fail(about);
+    if !print_headed(rt, fd, request, number) {
+        tool_io::messages::fail_last(rt, about);
         return 2;
     }
     if print_answer(fd, request, input, out, n) {
         return 0;
     }
-    os::fail(about);
+    tool_io::messages::fail_last(rt, about);
     2
 }
 
@@ -126,11 +132,12 @@ fn say_rungs(request: Request, extent: Extent) {
     }
     let mut page = io::buffer();
     let n = job_summary::append_rungs(&mut page, 0, extent.erosions as u64);
-    io::write_all(STDERR_FILENO, &page[..n]);
+    io::write_all(STDERR, &page[..n]);
 }
 
 // Writes a list's file, and tells of it what is asked.
 fn deliver_list(
+    rt: &HostRuntime,
     fd: i32,
     about: &[u8],
     request: Request,
@@ -141,7 +148,7 @@ fn deliver_list(
 ) -> u32
     ensures { result ≤ 2 }
 {
-    let status = deliver(fd, about, request, number, input, out, extent.bytes);
+    let status = deliver(rt, fd, about, request, number, input, out, extent.bytes);
     if status == 0 {
         say_rungs(request, extent);
     }
@@ -150,6 +157,7 @@ fn deliver_list(
 
 // An input that was read: its answer goes to fd, or its refusal is said.
 fn answer(
+    rt: &HostRuntime,
     fd: i32,
     about: &[u8],
     request: Request,
@@ -167,8 +175,8 @@ fn answer(
     let scale = request.scale;
     let outcome = tool_answers::outcome_of(command, scale, request.kind, input, out, a, b, c);
     match outcome {
-        Outcome::Done(n) => deliver(fd, about, request, number, input, out, n),
-        Outcome::Listed(extent) => deliver_list(fd, about, request, number, input, out, extent),
+        Outcome::Done(n) => deliver(rt, fd, about, request, number, input, out, n),
+        Outcome::Listed(extent) => deliver_list(rt, fd, about, request, number, input, out, extent),
         Outcome::Refused(refusal) => refusals::say_refusal(from, command, scale, input, refusal),
         Outcome::Faulty(fault) => refusals::say_fault(from, fault),
     }
@@ -176,6 +184,7 @@ fn answer(
 
 // Reads the input with a number and answers.
 fn answer_input(
+    rt: &HostRuntime,
     fd: i32,
     about: &[u8],
     request: Request,
@@ -189,13 +198,14 @@ fn answer_input(
     ensures { result ≤ 2 }
 {
     let mut from = io::large_buffer();
-    let n = tool_io::names::label(&mut from, number, b"standard input");
-    let got = tool_io::input::read_input(number, &from[..n], input);
+    let n = tool_io::names::label(rt, &mut from, number, b"standard input");
+    let got = tool_io::input::read_input(rt, number, &from[..n], input);
     if !got.whole {
         return 2;
     }
     let bytes = got.bytes;
     answer(
+        rt,
         fd,
         about,
         request,
@@ -213,6 +223,7 @@ fn answer_input(
 
 // Answers each input in its turn; the status is the worst of theirs.
 fn answer_all(
+    rt: &HostRuntime,
     fd: i32,
     about: &[u8],
     request: Request,
@@ -224,17 +235,17 @@ fn answer_all(
 ) -> u32
     ensures { result ≤ 2 }
 {
-    let count = os::arg_count();
+    let count = tool_io::words::count(rt);
     let mut which = request.first;
-    let mut number = tool_words::plain_word(which);
-    let mut status = answer_input(fd, about, request, number, input, out, a, b, c);
+    let mut number = tool_words::plain_word(rt, which);
+    let mut status = answer_input(rt, fd, about, request, number, input, out, a, b, c);
     while which < count {
         which += 1;
-        number = tool_words::plain_word(which);
+        number = tool_words::plain_word(rt, which);
         if number == 0 {
             return status;
         }
-        let next = answer_input(fd, about, request, number, input, out, a, b, c);
+        let next = answer_input(rt, fd, about, request, number, input, out, a, b, c);
         status = worse(status, next);
     }
     status
@@ -244,6 +255,7 @@ fn answer_all(
 
 // Writes what two files have in common; 0 where they cut the same relief, else 1.
 fn deliver_comparison(
+    rt: &HostRuntime,
     fd: i32,
     about: &[u8],
     first: &[u8],
@@ -255,7 +267,7 @@ fn deliver_comparison(
     let mut page = [0u8; 256];
     let n = comparison_text::append_line(&mut page, 0, first, second, compared);
     if !io::write_all(fd, &page[..n]) {
-        os::fail(about);
+        tool_io::messages::fail_last(rt, about);
         return 2;
     }
     status_of(compared)
@@ -276,6 +288,7 @@ fn status_of(compared: Comparison) -> u32
 
 // A refused file cannot be compared: the status is 2, since 1 says that they differ.
 fn compare_files(
+    rt: &HostRuntime,
     fd: i32,
     about: &[u8],
     first: &[u8],
@@ -298,12 +311,13 @@ fn compare_files(
             refusals::say_refusal(other, Command::Same, scale, second, refusal);
             2
         }
-        _ => deliver_comparison(fd, about, first, second, compared),
+        _ => deliver_comparison(rt, fd, about, first, second, compared),
     }
 }
 
 // Reads the second input and compares it with the first; `one` names that.
 fn compare_second(
+    rt: &HostRuntime,
     fd: i32,
     about: &[u8],
     first: &[u8],
@@ -314,19 +328,20 @@ fn compare_second(
 ) -> u32
     ensures { result ≤ 2 }
 {
-    let number = tool_words::plain_word(1);
+    let number = tool_words::plain_word(rt, 1);
     let mut other = io::large_buffer();
-    let n = tool_io::names::label(&mut other, number, b"standard input");
-    let got = tool_io::input::read_input(number, &other[..n], out);
+    let n = tool_io::names::label(rt, &mut other, number, b"standard input");
+    let got = tool_io::input::read_input(rt, number, &other[..n], out);
     if !got.whole {
         return 2;
     }
     let bytes = got.bytes;
-    compare_files(fd, about, first, &out[..bytes], one, &other[..n], a, b)
+    compare_files(rt, fd, about, first, &out[..bytes], one, &other[..n], a, b)
 }
 
 // Reads two inputs and compares them.
 fn compare_inputs(
+    rt: &HostRuntime,
     fd: i32,
     about: &[u8],
     input: &mut [u8],
@@ -336,21 +351,22 @@ fn compare_inputs(
 ) -> u32
     ensures { result ≤ 2 }
 {
-    let number = tool_words::plain_word(0);
+    let number = tool_words::plain_word(rt, 0);
     let mut one = io::large_buffer();
-    let n = tool_io::names::label(&mut one, number, b"standard input");
-    let got = tool_io::input::read_input(number, &one[..n], input);
+    let n = tool_io::names::label(rt, &mut one, number, b"standard input");
+    let got = tool_io::input::read_input(rt, number, &one[..n], input);
     if !got.whole {
         return 2;
     }
     let bytes = got.bytes;
-    compare_second(fd, about, &input[..bytes], &one[..n], out, a, b)
+    compare_second(rt, fd, about, &input[..bytes], &one[..n], out, a, b)
 }
 
 // ---- the output
 
 // The whole answer to fd; `about` names the output in messages.
 fn produce(
+    rt: &HostRuntime,
     fd: i32,
     about: &[u8],
     request: Request,
@@ -364,9 +380,9 @@ fn produce(
 {
     let command = request.command;
     if tool_words::is_same(command) {
-        return compare_inputs(fd, about, input, out, a, b);
+        return compare_inputs(rt, fd, about, input, out, a, b);
     }
-    answer_all(fd, about, request, input, out, a, b, c)
+    answer_all(rt, fd, about, request, input, out, a, b, c)
 }
 
 // The status by which an output is kept or not: that two files differ is an answer too.
@@ -384,6 +400,7 @@ fn kept_by(command: Command, status: u32) -> u32
 
 // Opens the output that a word names, answers, and ends the output.
 fn run_to(
+    rt: &HostRuntime,
     number: usize,
     request: Request,
     input: &mut [u8],
@@ -395,18 +412,19 @@ fn run_to(
     ensures { result ≤ 2 }
 {
     let mut about = io::large_buffer();
-    let l = tool_io::names::label(&mut about, number, b"standard output");
+    let l = tool_io::names::label(rt, &mut about, number, b"standard output");
     let mut name = io::buffer();
     let mut part = io::buffer();
-    let opened = tool_io::output::open(number, &mut name, &mut part, &about[..l]);
+    let opened = tool_io::output::open(rt, number, &mut name, &mut part, &about[..l]);
     if opened.fd < 0 {
         return 2;
     }
-    let status = produce(opened.fd, &about[..l], request, input, out, a, b, c);
+    let status = produce(rt, opened.fd, &about[..l], request, input, out, a, b, c);
     let n = opened.name;
     let m = opened.part;
     let command = request.command;
     let ended = tool_io::output::close(
+        rt,
         opened,
         kept_by(command, status),
         &name[..n],
@@ -420,6 +438,7 @@ fn run_to(
 
 // Carries out a command: its words are looked at before anything is read.
 fn run(
+    rt: &HostRuntime,
     command: Command,
     input: &mut [u8],
     out: &mut [u8],
@@ -429,26 +448,26 @@ fn run(
 ) -> u32
     ensures { result ≤ 2 }
 {
-    let options = tool_words::given_options();
-    if !tool_words::fits(command, options) {
+    let options = tool_words::given_options(rt);
+    if !tool_words::fits(rt, command, options) {
         return help::usage();
     }
-    let given = tool_words::scales::scale_of(command);
+    let given = tool_words::scales::scale_of(rt, command);
     if !given.ok {
         return 2;
     }
     let scale = given.scale;
-    let kind = tool_words::given_kind(options);
+    let kind = tool_words::given_kind(rt, options);
     if kind == 0 {
         return help::usage();
     }
-    let loaded = tables::given_table(options.table, input);
+    let loaded = tables::given_table(rt, options.table, input);
     if loaded.status != 0 {
         return loaded.status;
     }
     let table = loaded.table;
     let first = tool_words::first_input(command);
-    let headed = tool_words::plain_word(1) != 0;
+    let headed = tool_words::plain_word(rt, 1) != 0;
     let request = Request {
         command,
         scale,
@@ -458,13 +477,13 @@ fn run(
         first,
         headed,
     };
-    run_to(options.output, request, input, out, a, b, c)
+    run_to(rt, options.output, request, input, out, a, b, c)
 }
 
 // The program: buffers for an input and an answer, and three with a byte for each cell; their bytes are free. Gives the status: 0 done,
 // 1 refused, 2 trouble or wrong use. What is wrong stands on standard error.
-#[unsafe(no_mangle)]
-pub extern "C" fn jobtool(
+pub fn jobtool(
+    rt: &HostRuntime,
     input: &mut [u8],
     out: &mut [u8],
     a: &mut [u8],
@@ -473,11 +492,11 @@ pub extern "C" fn jobtool(
 ) -> u32
     ensures { result ≤ 2 }
 {
-    let command = tool_words::given_command();
+    let command = tool_words::given_command(rt);
     match command {
-        Command::Help => help::print_help(),
-        Command::Version => help::print_version(),
+        Command::Help => help::print_help(rt),
+        Command::Version => help::print_version(rt),
         Command::Unknown => help::usage(),
-        _ => run(command, input, out, a, b, c),
+        _ => run(rt, command, input, out, a, b, c),
     }
 }

@@ -2,7 +2,7 @@
 ghost use Rattle.std.specs.Prelude.{◌≤◌, length};
 ghost use Rattle.io.specs.Counts.{IsPrefixLen};
 
-use libc::STDERR_FILENO;
+use crate::STDERR;
 use motion_floats::Scale;
 use pgm::PictureFault;
 use refusal::Refusal;
@@ -66,7 +66,7 @@ pub fn say_refusal(
     let used = reasons::put_opening(&mut page, refusal, from);
     let told = append_reason(&mut page, used, command, scale, input, refusal);
     let end = phrases::append(&mut page, told, b"\n");
-    io::write_all(STDERR_FILENO, &page[..end]);
+    io::write_all(STDERR, &page[..end]);
     1
 }
 
@@ -79,6 +79,6 @@ pub fn say_fault(from: &[u8], fault: PictureFault) -> u32
     let used = phrases::append(&mut page, named, b": ");
     let told = pgm_sentences::append_fault(&mut page, used, fault);
     let end = phrases::append(&mut page, told, b"\n");
-    io::write_all(STDERR_FILENO, &page[..end]);
+    io::write_all(STDERR, &page[..end]);
     1
 }

@@ -20,13 +20,13 @@ fn say_refused(from: &[u8], field: &[u8], refusal: refusal::Refusal) -> u32
 }
 
 // The table that a word names, read into a lent buffer.
-fn load_named(number: usize, input: &mut [u8]) -> Given
+fn load_named(rt: &HostRuntime, number: usize, input: &mut [u8]) -> Given
     ensures { result.status ≤ 2 }
 {
     let mut from = io::large_buffer();
-    let n = tool_io::names::label(&mut from, number, b"standard input");
+    let n = tool_io::names::label(rt, &mut from, number, b"standard input");
     let mut table = sink::built_in();
-    let got = tool_io::input::read_input(number, &from[..n], input);
+    let got = tool_io::input::read_input(rt, number, &from[..n], input);
     if !got.whole {
         return Given { table, status: 2 };
     }
@@ -42,7 +42,7 @@ fn load_named(number: usize, input: &mut [u8]) -> Given
 }
 
 // The table that a word names; without a word the built-in one.
-pub fn given_table(number: usize, input: &mut [u8]) -> Given
+pub fn given_table(rt: &HostRuntime, number: usize, input: &mut [u8]) -> Given
     ensures { result.status ≤ 2 }
 {
     if number == 0 {
@@ -51,5 +51,5 @@ pub fn given_table(number: usize, input: &mut [u8]) -> Given
             status: 0,
         };
     }
-    load_named(number, input)
+    load_named(rt, number, input)
 }

@@ -1,11 +1,11 @@
 // Document 01's blocks to try that are not marked M, and the worked example of `plunges`: makes each call and prints what comes back.
 #![tactic(auto)]
+
 ghost use Rattle.std.specs.Prelude.{◌≡◌, length};
 
-use libc::STDOUT_FILENO;
 use listing::ListAnswer;
 use refusal::Verdict;
-use test_io::{UNTOUCHED, part, print_next, print_refusal, print_rest, print_text};
+use test_io::{STDOUT_FILENO, UNTOUCHED, part, print_next, print_refusal, print_rest, print_text};
 
 const SIDE: usize = refusal::LARGEST_SIDE as usize;
 

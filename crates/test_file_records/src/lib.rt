@@ -1,13 +1,15 @@
 // Runs the calls on plunge files as records describe them, and prints what comes back.
 #![tactic(auto)]
+
 use job_check::check;
 use jobs::{draw, list, tidy};
-use libc::STDIN_FILENO;
 use listing::ListAnswer;
 use reading::{Job, ReadAnswer};
 use refusal::{Refusal, Verdict};
 use scan::byte_in;
-use test_io::{both, is_kept, part, print_next, print_refusal, print_rest, print_text, word};
+use test_io::{
+    STDIN_FILENO, both, is_kept, part, print_next, print_refusal, print_rest, print_text, word,
+};
 use test_records::{CELLS_ROOM, FILE_ROOM, between, cells_room, file_room, size_of};
 
 // The fixed bytes of a record.

@@ -1,5 +1,6 @@
 // What plunges tell of themselves: `covers` of every cell and `inside` of every pair in a small universe, for both kinds.
 #![tactic(auto)]
+
 use geometry::{Kind, Plunge, Reach};
 use test_io::{print_next, print_text};
 

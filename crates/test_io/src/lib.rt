@@ -1,12 +1,17 @@
 // What the test programs share: numbers out of bytes, parts of buffers, patterns of reliefs, printing.
 #![tactic(auto)]
+
 ghost use Rattle.std.specs.Prelude.{◌≤◌, length};
 ghost use Rattle.io.specs.Counts.{IsPrefixLen};
 
-use libc::STDOUT_FILENO;
 use numbers::{smaller, wide};
 use refusal::Refusal;
 use scan::byte_in;
+
+// Standard input and standard output.
+pub const STDIN_FILENO: i32 = 0;
+
+pub const STDOUT_FILENO: i32 = 1;
 
 // What every output and work buffer holds before a call.
 pub const UNTOUCHED: u8 = 170;

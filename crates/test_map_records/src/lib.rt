@@ -1,12 +1,12 @@
 // Runs every map call on plates and buffers that records describe, and prints what comes back.
 #![tactic(auto)]
+
 use clearance_cell::CellAnswer;
 use erosion_maps::VolumeAnswer;
-use libc::STDIN_FILENO;
 use refusal::Verdict;
 use residue_scores::Score;
 use scan::byte_in;
-use test_io::{part, print_text, word};
+use test_io::{STDIN_FILENO, part, print_text, word};
 use test_records::{CELLS_ROOM, cells_room, size_of};
 
 // The fixed bytes of a record.

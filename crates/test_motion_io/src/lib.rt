@@ -1,5 +1,6 @@
 // What the test programs of motions share: floats and motions printed to the last bit.
 #![tactic(auto)]
+
 use motion::MotionAnswer;
 use motion_floats::{Motion, Motions};
 use test_io::print_text;

@@ -1,13 +1,13 @@
 // Runs the motion call on files, plunge numbers and scales that its input describes, and prints what comes back, floats to the last bit.
 #![tactic(auto)]
+
 ghost use Rattle.std.specs.Prelude.{◌≡◌, ◌≤◌};
 ghost use Rattle.std.specs.Float.{binary64};
 ghost use Rattle.std.specs.Float.Ieee.{nan_bits};
 
-use libc::STDIN_FILENO;
 use motion_floats::Scale;
 use scan::byte_in;
-use test_io::{two_words, word};
+use test_io::{STDIN_FILENO, two_words, word};
 use test_records::{between, size_of};
 
 // The bytes of a record, which is a test case of the motion call, before its file: the file's length, the plunge's number, and three floats.

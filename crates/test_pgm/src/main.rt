@@ -1,12 +1,12 @@
 // Runs the calls of `pgm`, `pgm_copies` and `pgm_sentences` on the records of its input, and prints each answer, what it left of the output, and the sentence of a fault.
 #![tactic(auto)]
+
 ghost use Rattle.std.specs.Prelude.{◌≤◌};
 
-use libc::STDIN_FILENO;
 use pgm::{PictureAnswer, PictureFault};
 use pgm_copies::CopyAnswer;
 use scan::byte_in;
-use test_io::{print_next, print_text, word};
+use test_io::{STDIN_FILENO, print_next, print_text, word};
 use test_records::{between, size_of};
 
 // The bytes of a record before its literal ones: which call, kind or width, height, the length of the output, how many literal bytes

@@ -1,10 +1,10 @@
 // Runs the whole work of the program `plunges` on scans that its input describes, and prints the text of each: of a long one its length and two sums.
 #![tactic(auto)]
+
 ghost use Rattle.std.specs.Prelude.{◌≤◌};
 
-use libc::STDIN_FILENO;
 use scan::byte_in;
-use test_io::{print_next, print_text, word};
+use test_io::{STDIN_FILENO, print_next, print_text, word};
 use test_records::{between, size_of};
 
 // A text of up to this many bytes is printed as it is.

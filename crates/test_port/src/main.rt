@@ -1,13 +1,13 @@
 // Drives the press port by what its input describes, and prints what comes back: inputs one by one, inputs at every
 // status, long runs, and traces.
 #![tactic(auto)]
+
 ghost use Rattle.std.specs.Prelude.{◌≤◌};
 
-use libc::STDIN_FILENO;
 use port::{Input, Port, PortAnswer};
 use refusal::Verdict;
 use scan::byte_in;
-use test_io::{UNTOUCHED, print_next, print_text, two_words, word};
+use test_io::{STDIN_FILENO, UNTOUCHED, print_next, print_text, two_words, word};
 use test_records::between;
 
 // The fixed bytes of a record. The inputs that are tried one by one, or a trace, stand behind them.

@@ -1,6 +1,7 @@
 // From record to record of a test program's input, and the buffers that records ask for.
 // A record is one test case: a call with its arguments, the lengths of its buffers, and the bytes of its relief or file.
 #![tactic(auto)]
+
 ghost use Rattle.std.specs.Prelude.{◌<◌, ◌≤◌, ◌≡◌, length};
 
 use refusal::LARGEST_SIDE;

@@ -1,12 +1,12 @@
 // Runs the text of a job's figures on the files that its input holds, and prints it; of an unreadable file the refusal.
 #![tactic(auto)]
+
 ghost use Rattle.std.specs.Prelude.{◌≤◌};
 ghost use Rattle.reading.specs.Steps.{JobOf};
 
-use libc::STDIN_FILENO;
 use reading::{Job, ReadAnswer};
 use scan::byte_in;
-use test_io::{UNTOUCHED, is_kept, word};
+use test_io::{STDIN_FILENO, UNTOUCHED, is_kept, word};
 use test_records::{between, cells_room, size_of};
 
 // The bytes of a record before its file: the lengths of the file and of the page, and the place in the page where the text begins.

@@ -1,12 +1,12 @@
 // Runs the calls on sink tables, and the motion call by tables of any numbers, on what its input describes, and prints what comes back.
 #![tactic(auto)]
-use libc::STDIN_FILENO;
+
 use motion_floats::Scale;
 use refusal::Verdict;
 use scan::byte_in;
 use sink::ENTRIES;
 use table_field::TABLE_BYTES;
-use test_io::{UNTOUCHED, part, print_refusal, print_text, word};
+use test_io::{STDIN_FILENO, UNTOUCHED, part, print_refusal, print_text, word};
 use test_records::{between, size_of};
 
 // The fixed bytes of a record. Patches of three bytes, then a file, stand behind them.

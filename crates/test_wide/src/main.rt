@@ -1,5 +1,6 @@
 // Clearances in two bytes a cell, and drawing back from them, on plates past 240 cells.
 #![tactic(auto)]
+
 ghost use Rattle.std.specs.Prelude.{◌≡◌, ◌<◌};
 ghost use Rattle.geometry.specs.Plate.{area};
 

@@ -2,26 +2,30 @@
 ghost use Rattle.std.specs.Prelude.{◌≤◌, ◌<◌, length};
 ghost use Rattle.io.specs.Counts.{IsPrefixLen};
 
+use crate::words::fetch;
+use std::random::RandomSource;
+
 // Whether the word with this number is there and is not "-", which stands for standard input or output.
-pub fn is_name(number: usize) -> bool {
+pub fn is_name(rt: &HostRuntime, number: usize) -> bool {
     if number == 0 {
         return false;
     }
-    let mut word = [0u8; 2];
-    let n = os::arg(number, &mut word);
-    !check::same(&word[..n], b"-")
+    let mut text = [0u8; 2];
+    let n = fetch(rt, number, &mut text).length;
+    !check::same(&text[..n], b"-")
 }
 
 // A name as it is shown; of one that is too long for the system the beginning.
-fn append_shown(page: &mut [u8], at: usize, number: usize) -> usize
+fn append_shown(rt: &HostRuntime, page: &mut [u8], at: usize, number: usize) -> usize
     requires { at ≤ length page.old }
     ensures { IsPrefixLen result page.new }
 {
     let mut name = io::buffer();
-    let n = os::arg(number, &mut name);
-    if os::errno() == libc::ENAMETOOLONG {
+    let got = fetch(rt, number, &mut name);
+    let n = got.length;
+    if got.cut {
         let mut begin = [0u8; 64];
-        os::arg(number, &mut begin);
+        fetch(rt, number, &mut begin);
         let begun = phrases::append_name(page, at, &begin);
         return phrases::append(page, begun, b"...");
     }
@@ -29,11 +33,11 @@ fn append_shown(page: &mut [u8], at: usize, number: usize) -> usize
 }
 
 // A file's name and what follows it, before what is told of that file; gives its length.
-pub fn heading(page: &mut [u8], number: usize, after: &[u8]) -> usize
+pub fn heading(rt: &HostRuntime, page: &mut [u8], number: usize, after: &[u8]) -> usize
     ensures { IsPrefixLen result page.new }
 {
-    if is_name(number) {
-        let named = append_shown(page, 0, number);
+    if is_name(rt, number) {
+        let named = append_shown(rt, page, 0, number);
         return phrases::append(page, named, after);
     }
     let standard = phrases::append(page, 0, b"standard input");
@@ -41,12 +45,12 @@ pub fn heading(page: &mut [u8], number: usize, after: &[u8]) -> usize
 }
 
 // What messages about a file begin with: the program, and the name, or `standard` where there is none. Gives its length.
-pub fn label(page: &mut [u8], number: usize, standard: &[u8]) -> usize
+pub fn label(rt: &HostRuntime, page: &mut [u8], number: usize, standard: &[u8]) -> usize
     ensures { IsPrefixLen result page.new }
 {
     let at = phrases::append(page, 0, b"jobtool: ");
-    if is_name(number) {
-        append_shown(page, at, number)
+    if is_name(rt, number) {
+        append_shown(rt, page, at, number)
     } else {
         phrases::append(page, at, standard)
     }
@@ -86,12 +90,12 @@ fn redirect(name: &mut [u8], n: usize, link: &[u8]) -> usize
 }
 
 // Follows one link; 0 where the name is none.
-fn follow_link(name: &mut [u8], n: usize) -> usize
+fn follow_link(rt: &HostRuntime, name: &mut [u8], n: usize) -> usize
     requires { IsPrefixLen n name.old }
     ensures { IsPrefixLen result name.new }
 {
     let mut link = io::buffer();
-    let m = file_status::link_target(&name[..n], &mut link);
+    let m = file_status::link_target(rt, &name[..n], &mut link);
     if m == 0 {
         return 0;
     }
@@ -99,14 +103,14 @@ fn follow_link(name: &mut [u8], n: usize) -> usize
 }
 
 // Follows links, 40 at most, as the system does. A name that outgrows the buffer fills it, and is then refused as too long.
-pub fn follow_links(name: &mut [u8], n: usize) -> usize
+pub fn follow_links(rt: &HostRuntime, name: &mut [u8], n: usize) -> usize
     requires { IsPrefixLen n name.old }
     ensures { IsPrefixLen result name.new }
 {
     let mut used = n;
     let mut left: u32 = 40;
     while 0 < left {
-        let next = follow_link(name, used);
+        let next = follow_link(rt, name, used);
         if next == 0 {
             return used;
         }
@@ -123,19 +127,19 @@ fn wide(byte: u8) -> u64
 }
 
 // A number that no other program is likely to take: 32 random bits.
-fn random_number() -> u64 {
+fn random_number(rt: &HostRuntime) -> u64 {
     let mut bytes = [0u8; 4];
-    libc::getentropy(&mut bytes);
+    let _ = rt.fill_bytes(&mut bytes);
     let high = wide(bytes[0]) * 256 + wide(bytes[1]);
     let low = wide(bytes[2]) * 256 + wide(bytes[3]);
     high * 65536 + low
 }
 
 // A name for a new file in the folder of another; gives its length.
-pub fn new_name(page: &mut [u8], beside: &[u8]) -> usize
+pub fn new_name(rt: &HostRuntime, page: &mut [u8], beside: &[u8]) -> usize
     ensures { IsPrefixLen result page.new }
 {
     let folder = folder_length(beside);
     let at = phrases::append(page, 0, &beside[..folder]);
-    phrases::append_phrase(page, at, b"jobtool-", random_number(), b".part")
+    phrases::append_phrase(page, at, b"jobtool-", random_number(rt), b".part")
 }

@@ -1,9 +1,22 @@
 // An output: standard output, a device or a pipe written in place, or a file that takes its place when it is whole.
-ghost use Rattle.std.specs.Prelude.{◌≤◌};
+ghost use Rattle.std.specs.Prelude.{◌≡◌, ◌≤◌};
 ghost use Rattle.io.specs.Counts.{IsPrefixLen};
 
-use file_status::FileStatus;
-use libc::STDOUT_FILENO;
+use crate::messages::fail;
+use crate::words;
+use crate::words::Word;
+use file_status::{FileStatus, text_of};
+use std::fs;
+use std::fs::{File, OpenOptions, Permissions};
+use std::io::{Error, ErrorKind};
+use std::os::fd::AsRawFd;
+use std::os::unix::fs::{PermissionsExt, fchown};
+
+// Standard output.
+const STDOUT: i32 = 1;
+
+// C's EILSEQ: a link that leads to a name that is no UTF-8, which is how std takes names.
+const NO_TEXT: i32 = 84;
 
 // How an output is ended: not at all, closed, or put in its place.
 #[derive(Clone, Copy)]
@@ -13,10 +26,12 @@ pub enum Sort {
     Beside,
 }
 
-// An output that is open (or not: fd is then -1, and the reason was said): the lengths of its name and of the new file's.
-#[derive(Clone, Copy)]
+// An output that is open (or not: fd is then -1, and the reason was said): its descriptor, the file if it is not standard output,
+// the lengths of its name and of the new file's.
+#[derive(Drop)]
 pub struct Output {
     pub fd: i32,
+    pub file: Option<File>,
     pub sort: Sort,
     pub name: usize,
     pub part: usize,
@@ -27,265 +42,398 @@ fn is_special(status: FileStatus) -> bool {
     if !status.found {
         return false;
     }
-    status.mode & libc::S_IFMT != libc::S_IFREG
+    status.mode & file_status::KIND != file_status::REGULAR
 }
 
 // Whether a file may be replaced: it is missing, or a regular one that may be written. If not, the reason was said.
-fn is_replaceable(name: &[u8], status: FileStatus, about: &[u8]) -> bool {
+fn is_replaceable(rt: &HostRuntime, name: &[u8], status: FileStatus, about: &[u8]) -> bool {
     if status.found {
-        if file_status::is_writable(name) {
-            return true;
+        match file_status::try_writing(rt, name) {
+            Ok(()) => return true,
+            Err(error) => {
+                fail(rt, about, &error);
+                return false;
+            }
         }
-        os::fail(about);
-        return false;
     }
     true
 }
 
-// A new file's descriptor, and the length of its name.
-#[derive(Clone, Copy)]
+// A file that is new under its name.
+fn create(rt: &HostRuntime, name: &[u8]) -> Result<File, Error> {
+    match text_of(name) {
+        Ok(text) => {
+            let mut options = OpenOptions::new();
+            options.write(true);
+            options.create_new(true);
+            options.open(rt, text)
+        }
+        Err(error) => Err(error),
+    }
+}
+
+// A new file, or why there is none, and the length of its name.
+#[derive(Drop)]
 struct Part {
-    fd: i32,
+    file: Result<File, Error>,
     length: usize,
 }
 
 // One new name.
-fn create_one(name: &[u8], part: &mut [u8]) -> Part
+fn create_one(rt: &HostRuntime, name: &[u8], part: &mut [u8]) -> Part
     ensures { IsPrefixLen result.length part.new }
 {
-    let length = crate::names::new_name(part, name);
-    let fd = os::create(&part[..length]);
-    Part { fd, length }
+    let length = crate::names::new_name(rt, part, name);
+    let file = create(rt, &part[..length]);
+    Part { file, length }
 }
 
 // Whether a name was taken already, so that another is worth a try.
-fn is_taken(fd: i32) -> bool {
-    if 0 <= fd {
-        return false;
+fn is_taken(file: &Result<File, Error>) -> bool {
+    match file {
+        Ok(_) => false,
+        Err(error) => match error.kind() {
+            ErrorKind::AlreadyExists => true,
+            _ => false,
+        },
     }
-    os::errno() == libc::EEXIST
 }
 
-// Nine names are tried at most; the descriptor is -1 where none could be had, and errno then says why.
-fn create_beside(name: &[u8], part: &mut [u8]) -> Part
+// Nine names are tried at most; there is no file where none could be had.
+fn create_beside(rt: &HostRuntime, name: &[u8], part: &mut [u8]) -> Part
     ensures { IsPrefixLen result.length part.new }
 {
-    let mut made = create_one(name, part);
+    let mut made = create_one(rt, name, part);
     let mut tries: u32 = 8;
     while 0 < tries {
-        if !is_taken(made.fd) {
+        if !is_taken(&made.file) {
             return made;
         }
-        made = create_one(name, part);
+        made = create_one(rt, name, part);
         tries -= 1;
     }
     made
 }
 
 // A new file gets the permissions and, where the system allows it, the owner of the one that it replaces.
-fn take_after(fd: i32, status: FileStatus) -> bool {
+fn take_after(file: &File, status: FileStatus) -> Result<(), Error> {
     if !status.found {
-        return true;
+        return Ok(());
     }
-    libc::fchown(fd, status.owner, status.group);
-    libc::fchmod(fd, status.mode & 0o7777) == 0
+    let _ = fchown(file, Some(status.owner), Some(status.group));
+    file.set_permissions(Permissions::from_mode(status.mode & 0o7777))
 }
 
-// Whether all of a file has reached the device, and the file is closed.
-fn is_kept(fd: i32) -> bool {
-    if libc::fsync(fd) != 0 {
-        return false;
+// All of a file reaches the device, and the file is closed.
+fn keep(file: File) -> Result<(), Error> {
+    file.sync_all()
+}
+
+// A file, or the folder of that name.
+fn sync(rt: &HostRuntime, folder: &[u8]) -> Result<(), Error> {
+    match open_folder(rt, folder) {
+        Ok(file) => file.sync_all(),
+        Err(error) => Err(error),
     }
-    libc::close(fd) == 0
+}
+
+fn open_folder(rt: &HostRuntime, folder: &[u8]) -> Result<File, Error> {
+    if folder.len() == 0 {
+        return File::open(rt, ".");
+    }
+    match text_of(folder) {
+        Ok(text) => File::open(rt, text),
+        Err(error) => Err(error),
+    }
 }
 
 // The folder's entry too, as far as the system allows it: some file systems cannot.
-fn keep_folder(name: &[u8]) {
+fn keep_folder(rt: &HostRuntime, name: &[u8]) {
     let folder = crate::names::folder_length(name);
-    let fd = open_folder(&name[..folder]);
-    if 0 <= fd {
-        libc::fsync(fd);
-        libc::close(fd);
+    let _ = sync(rt, &name[..folder]);
+}
+
+fn remove(rt: &HostRuntime, part: &[u8]) {
+    match text_of(part) {
+        Ok(text) => {
+            let _ = fs::remove_file(rt, text);
+        }
+        Err(_) => {}
     }
 }
 
-fn open_folder(folder: &[u8]) -> i32 {
-    if folder.len() == 0 {
-        return os::open_read(b".");
+fn rename(rt: &HostRuntime, part: &[u8], name: &[u8]) -> Result<(), Error> {
+    match text_of(part) {
+        Ok(from) => match text_of(name) {
+            Ok(to) => fs::rename(rt, from, to),
+            Err(error) => Err(error),
+        },
+        Err(error) => Err(error),
     }
-    os::open_read(folder)
 }
 
 // Says why a new file could not take its place, and removes it.
-fn fail_part(part: &[u8], about: &[u8]) -> bool {
-    os::fail(about);
-    os::unlink(part);
+fn fail_part(rt: &HostRuntime, part: &[u8], about: &[u8], error: &Error) -> bool {
+    fail(rt, about, error);
+    remove(rt, part);
     false
 }
 
 // Puts a new file in the place of another. Gives whether it stands there; if not, the reason was said and nothing is left of it.
-fn replace(fd: i32, part: &[u8], name: &[u8], about: &[u8]) -> bool {
-    if !is_kept(fd) {
-        return fail_part(part, about);
+fn replace(rt: &HostRuntime, file: File, part: &[u8], name: &[u8], about: &[u8]) -> bool {
+    match keep(file) {
+        Ok(()) => {}
+        Err(error) => return fail_part(rt, part, about, &error),
     }
-    if os::rename(part, name) != 0 {
-        return fail_part(part, about);
+    match rename(rt, part, name) {
+        Ok(()) => {}
+        Err(error) => return fail_part(rt, part, about, &error),
     }
-    keep_folder(name);
+    keep_folder(rt, name);
     true
-}
-
-// A file that is not to stay.
-fn discard(fd: i32, part: &[u8]) {
-    libc::close(fd);
-    os::unlink(part);
 }
 
 // ---- opened and ended
 
 // An output that could not be had; the reason was said.
-const NONE: Output = Output {
-    fd: -1,
-    sort: Sort::Standard,
-    name: 0,
-    part: 0,
-};
-
-// Whether a name stands for something that cannot be seen: the file is not just missing.
-fn is_hidden(status: FileStatus) -> bool {
-    if status.found {
-        return false;
-    }
-    os::errno() != libc::ENOENT
-}
-
-// A device or a pipe.
-fn open_in_place(name: &[u8], about: &[u8]) -> i32 {
-    let fd = os::open_overwrite(name);
-    if fd < 0 {
-        os::fail(about);
-    }
-    fd
-}
-
-// A new file beside the one that it is to replace.
-fn open_beside(name: &[u8], before: FileStatus, part: &mut [u8], about: &[u8]) -> Output
-    ensures { IsPrefixLen result.part part.new }
+fn none() -> Output
+    ensures { result.name ≡ 0 × result.part ≡ 0 }
 {
-    let made = create_beside(name, part);
-    let fd = made.fd;
-    if fd < 0 {
-        os::fail(about);
-        return NONE;
-    }
-    let length = made.length;
-    if !take_after(fd, before) {
-        fail_part(&part[..length], about);
-        return NONE;
-    }
     Output {
-        fd,
-        sort: Sort::Beside,
-        name: 0,
-        part: length,
-    }
-}
-
-// The file of a name, links followed.
-fn open_name(name: &[u8], before: FileStatus, part: &mut [u8], about: &[u8]) -> Output
-    ensures { IsPrefixLen result.part part.new }
-{
-    if !is_replaceable(name, before, about) {
-        return NONE;
-    }
-    open_beside(name, before, part, about)
-}
-
-// The file that a word names.
-fn open_word(number: usize, name: &mut [u8], part: &mut [u8], about: &[u8]) -> Output
-    ensures { IsPrefixLen result.name name.new × IsPrefixLen result.part part.new }
-{
-    let n = os::arg(number, name);
-    if os::errno() != 0 {
-        os::fail(about);
-        return NONE;
-    }
-    let before = file_status::status_of(&name[..n]);
-    if is_hidden(before) {
-        os::fail(about);
-        return NONE;
-    }
-    if is_special(before) {
-        let fd = open_in_place(&name[..n], about);
-        return Output {
-            fd,
-            sort: Sort::InPlace,
-            name: 0,
-            part: 0,
-        };
-    }
-    let m = crate::names::follow_links(name, n);
-    let opened = open_name(&name[..m], before, part, about);
-    let sort = opened.sort;
-    Output {
-        fd: opened.fd,
-        sort,
-        name: m,
-        part: opened.part,
-    }
-}
-
-// The output that a word names, or standard output where there is no such word or it is "-". `about` begins messages.
-pub fn open(number: usize, name: &mut [u8], part: &mut [u8], about: &[u8]) -> Output
-    ensures { IsPrefixLen result.name name.new × IsPrefixLen result.part part.new }
-{
-    if crate::names::is_name(number) {
-        return open_word(number, name, part, about);
-    }
-    Output {
-        fd: STDOUT_FILENO,
+        fd: -1,
+        file: None,
         sort: Sort::Standard,
         name: 0,
         part: 0,
     }
 }
 
-fn close_in_place(fd: i32, status: u32, about: &[u8]) -> u32
-    requires { status ≤ 2 }
-    ensures { result ≤ 2 }
+// An output in a file.
+fn in_file(file: File, sort: Sort, name: usize, part: usize) -> Output
+    ensures { result.name ≡ name × result.part ≡ part }
 {
-    if libc::close(fd) == 0 {
-        return status;
+    let fd = file.as_raw_fd();
+    Output {
+        fd,
+        file: Some(file),
+        sort,
+        name,
+        part,
     }
-    os::fail(about);
-    2
+}
+
+fn overwrite(rt: &HostRuntime, name: &[u8]) -> Result<File, Error> {
+    match text_of(name) {
+        Ok(text) => File::create(rt, text),
+        Err(error) => Err(error),
+    }
+}
+
+// A device or a pipe.
+fn open_in_place(rt: &HostRuntime, name: &[u8], about: &[u8]) -> Output
+    ensures { result.name ≡ 0 × result.part ≡ 0 }
+{
+    match overwrite(rt, name) {
+        Ok(file) => in_file(file, Sort::InPlace, 0, 0),
+        Err(error) => {
+            fail(rt, about, &error);
+            none()
+        }
+    }
+}
+
+// A new file beside the one that it is to replace.
+fn open_beside(
+    rt: &HostRuntime,
+    name: &[u8],
+    before: FileStatus,
+    part: &mut [u8],
+    about: &[u8],
+) -> Output
+    ensures { IsPrefixLen result.part part.new }
+{
+    let Part { file, length } = create_beside(rt, name, part);
+    match file {
+        Ok(file) => match take_after(&file, before) {
+            Ok(()) => in_file(file, Sort::Beside, 0, length),
+            Err(error) => {
+                fail_part(rt, &part[..length], about, &error);
+                none()
+            }
+        },
+        Err(error) => {
+            fail(rt, about, &error);
+            none()
+        }
+    }
+}
+
+// The file of a name, links followed.
+fn open_name(
+    rt: &HostRuntime,
+    name: &[u8],
+    before: FileStatus,
+    part: &mut [u8],
+    about: &[u8],
+) -> Output
+    ensures { IsPrefixLen result.part part.new }
+{
+    if file_status::is_link(rt, name) {
+        fail(rt, about, &Error::from_raw_os_error(NO_TEXT));
+        return none();
+    }
+    if !is_replaceable(rt, name, before, about) {
+        return none();
+    }
+    open_beside(rt, name, before, part, about)
+}
+
+// What stands under a name, if anything, or why that cannot be seen.
+fn seen(rt: &HostRuntime, word: Word, name: &[u8]) -> Result<FileStatus, Error> {
+    match words::whole(word) {
+        Ok(()) => {}
+        Err(error) => return Err(error),
+    }
+    match file_status::find(rt, name) {
+        Ok(status) => Ok(status),
+        Err(error) => match error.kind() {
+            ErrorKind::NotFound => Ok(file_status::MISSING),
+            _ => Err(error),
+        },
+    }
+}
+
+// The file of a name that is a regular one or missing.
+fn open_regular(
+    rt: &HostRuntime,
+    name: &mut [u8],
+    n: usize,
+    before: FileStatus,
+    part: &mut [u8],
+    about: &[u8],
+) -> Output
+    requires { IsPrefixLen n name.old }
+    ensures { IsPrefixLen result.name name.new × IsPrefixLen result.part part.new }
+{
+    let m = crate::names::follow_links(rt, name, n);
+    let opened = open_name(rt, &name[..m], before, part, about);
+    let Output {
+        fd,
+        file,
+        sort,
+        name: _,
+        part: length,
+    } = opened;
+    Output {
+        fd,
+        file,
+        sort,
+        name: m,
+        part: length,
+    }
+}
+
+// The file that a word names.
+fn open_word(
+    rt: &HostRuntime,
+    number: usize,
+    name: &mut [u8],
+    part: &mut [u8],
+    about: &[u8],
+) -> Output
+    ensures { IsPrefixLen result.name name.new × IsPrefixLen result.part part.new }
+{
+    let word = words::fetch(rt, number, name);
+    let n = word.length;
+    match seen(rt, word, &name[..n]) {
+        Ok(before) => {
+            if is_special(before) {
+                return open_in_place(rt, &name[..n], about);
+            }
+            open_regular(rt, name, n, before, part, about)
+        }
+        Err(error) => {
+            fail(rt, about, &error);
+            none()
+        }
+    }
+}
+
+// The output that a word names, or standard output where there is no such word or it is "-". `about` begins messages.
+pub fn open(
+    rt: &HostRuntime,
+    number: usize,
+    name: &mut [u8],
+    part: &mut [u8],
+    about: &[u8],
+) -> Output
+    ensures { IsPrefixLen result.name name.new × IsPrefixLen result.part part.new }
+{
+    if crate::names::is_name(rt, number) {
+        return open_word(rt, number, name, part, about);
+    }
+    Output {
+        fd: STDOUT,
+        file: None,
+        sort: Sort::Standard,
+        name: 0,
+        part: 0,
+    }
 }
 
 // A new file takes its place if all was done, and is removed if not.
-fn close_beside(output: Output, status: u32, name: &[u8], part: &[u8], about: &[u8]) -> u32
+fn close_beside(
+    rt: &HostRuntime,
+    file: File,
+    status: u32,
+    name: &[u8],
+    part: &[u8],
+    about: &[u8],
+) -> u32
     requires { status ≤ 2 }
     ensures { result ≤ 2 }
 {
-    let fd = output.fd;
     if status != 0 {
-        discard(fd, part);
+        discard(rt, file, part);
         return status;
     }
-    if replace(fd, part, name, about) {
+    if replace(rt, file, part, name, about) {
         return 0;
     }
     2
 }
 
+// A file that is not to stay.
+fn discard(rt: &HostRuntime, file: File, part: &[u8]) {
+    drop(file);
+    remove(rt, part);
+}
+
 // Ends an output after the work with this status; gives the status of both. Standard output stays open.
-pub fn close(output: Output, status: u32, name: &[u8], part: &[u8], about: &[u8]) -> u32
+pub fn close(
+    rt: &HostRuntime,
+    output: Output,
+    status: u32,
+    name: &[u8],
+    part: &[u8],
+    about: &[u8],
+) -> u32
     requires { status ≤ 2 }
     ensures { result ≤ 2 }
 {
-    let sort = output.sort;
-    match sort {
-        Sort::Standard => status,
-        Sort::InPlace => close_in_place(output.fd, status, about),
-        Sort::Beside => close_beside(output, status, name, part, about),
+    let Output {
+        fd: _,
+        file,
+        sort,
+        name: _,
+        part: _,
+    } = output;
+    match file {
+        None => status,
+        Some(file) => match sort {
+            Sort::Beside => close_beside(rt, file, status, name, part, about),
+            Sort::InPlace => status,
+            Sort::Standard => status,
+        },
     }
 }

@@ -1,10 +1,12 @@
 // The words behind the program's name: a command, options with their values, plain words.
 #![tactic(auto)]
+
 pub mod scales;
 
 ghost use Rattle.std.specs.Prelude.{◌≤◌, ◌<◌};
 
-use libc::STDIN_FILENO;
+use std::io::IsTerminal;
+use tool_io::words;
 
 // What to do; its word is the first.
 #[derive(Clone, Copy)]
@@ -106,9 +108,9 @@ fn command_of(word: &[u8]) -> Command {
     telling_command(word)
 }
 
-pub fn given_command() -> Command {
+pub fn given_command(rt: &HostRuntime) -> Command {
     let mut word = [0u8; 16];
-    let n = os::arg(1, &mut word);
+    let n = words::fetch(rt, 1, &mut word).length;
     command_of(&word[..n])
 }
 
@@ -163,10 +165,11 @@ fn word_of(text: &[u8]) -> Word {
     Word::Plain
 }
 
-fn word_at(number: usize) -> Word {
+fn word_at(rt: &HostRuntime, number: usize) -> Word {
     let mut text = [0u8; 32];
-    let n = os::arg(number, &mut text);
-    if os::errno() == libc::ENAMETOOLONG {
+    let got = words::fetch(rt, number, &mut text);
+    let n = got.length;
+    if got.cut {
         return long_word(&text);
     }
     word_of(&text[..n])
@@ -271,8 +274,8 @@ fn with_word(options: Options, word: Word, number: usize, count: usize) -> Optio
 }
 
 // The options behind the command.
-pub fn given_options() -> Options {
-    let count = os::arg_count();
+pub fn given_options(rt: &HostRuntime) -> Options {
+    let count = words::count(rt);
     let mut options = Options {
         output: 0,
         kind: 0,
@@ -282,7 +285,7 @@ pub fn given_options() -> Options {
     };
     let mut i = 2;
     while i < count {
-        let word = word_at(i);
+        let word = word_at(rt, i);
         options = with_word(options, word, i, count);
         i = next(word, i, count);
     }
@@ -303,12 +306,12 @@ fn is_plain(word: Word) -> bool {
 }
 
 // The number of a plain word behind the command, the first being 0; 0 where there are not so many.
-pub fn plain_word(which: usize) -> usize {
-    let count = os::arg_count();
+pub fn plain_word(rt: &HostRuntime, which: usize) -> usize {
+    let count = words::count(rt);
     let mut left = which;
     let mut i = 2;
     while i < count {
-        let word = word_at(i);
+        let word = word_at(rt, i);
         if is_plain(word) {
             if left == 0 {
                 return i;
@@ -350,27 +353,27 @@ pub fn first_input(command: Command) -> usize
 }
 
 // Whether there are as many plain words as a command takes.
-fn fits_plain(command: Command) -> bool {
+fn fits_plain(rt: &HostRuntime, command: Command) -> bool {
     match command {
-        Command::Motions => if plain_word(2) == 0 {
+        Command::Motions => if plain_word(rt, 2) == 0 {
             false
         } else {
-            plain_word(4) == 0
+            plain_word(rt, 4) == 0
         },
-        Command::Same => if plain_word(1) == 0 {
+        Command::Same => if plain_word(rt, 1) == 0 {
             false
         } else {
-            plain_word(2) == 0
+            plain_word(rt, 2) == 0
         },
         Command::Check => true,
         Command::Show => true,
         Command::Info => true,
-        Command::List => plain_word(1) == 0,
-        Command::Draw => plain_word(1) == 0,
-        Command::Tidy => plain_word(1) == 0,
-        Command::Scan => plain_word(1) == 0,
-        Command::Picture => plain_word(1) == 0,
-        Command::Table => plain_word(1) == 0,
+        Command::List => plain_word(rt, 1) == 0,
+        Command::Draw => plain_word(rt, 1) == 0,
+        Command::Tidy => plain_word(rt, 1) == 0,
+        Command::Scan => plain_word(rt, 1) == 0,
+        Command::Picture => plain_word(rt, 1) == 0,
+        Command::Table => plain_word(rt, 1) == 0,
         Command::Help => true,
         Command::Version => true,
         Command::Unknown => true,
@@ -418,21 +421,21 @@ fn makes_list(command: Command) -> bool {
 }
 
 // Whether a sink table stands where it means something, and is not read from where the job is.
-fn fits_table(command: Command, options: Options) -> bool {
+fn fits_table(rt: &HostRuntime, command: Command, options: Options) -> bool {
     if options.table == 0 {
         return true;
     }
     if !is_motions(command) {
         return false;
     }
-    if tool_io::names::is_name(options.table) {
+    if tool_io::names::is_name(rt, options.table) {
         return true;
     }
-    tool_io::names::is_name(plain_word(first_input(command)))
+    tool_io::names::is_name(rt, plain_word(rt, first_input(command)))
 }
 
 // Whether each option stands where it means something.
-fn fits_options(command: Command, options: Options) -> bool {
+fn fits_options(rt: &HostRuntime, command: Command, options: Options) -> bool {
     if options.wrong {
         return false;
     }
@@ -446,29 +449,29 @@ fn fits_options(command: Command, options: Options) -> bool {
             return false;
         }
     }
-    fits_table(command, options)
+    fits_table(rt, command, options)
 }
 
 // Without a name the input is standard input, but nobody is kept waiting at a terminal.
-fn fits_input(command: Command) -> bool {
-    if plain_word(first_input(command)) != 0 {
+fn fits_input(rt: &HostRuntime, command: Command) -> bool {
+    if plain_word(rt, first_input(command)) != 0 {
         return true;
     }
-    if libc::isatty(STDIN_FILENO) == 1 {
+    if rt.stdin().is_terminal() {
         return false;
     }
-    scales::is_complete(command)
+    scales::is_complete(rt, command)
 }
 
 // Whether a command was given what it takes.
-pub fn fits(command: Command, options: Options) -> bool {
-    if !fits_options(command, options) {
+pub fn fits(rt: &HostRuntime, command: Command, options: Options) -> bool {
+    if !fits_options(rt, command, options) {
         return false;
     }
-    if !fits_plain(command) {
+    if !fits_plain(rt, command) {
         return false;
     }
-    fits_input(command)
+    fits_input(rt, command)
 }
 
 pub fn is_same(command: Command) -> bool {
@@ -491,12 +494,12 @@ pub fn is_same(command: Command) -> bool {
 }
 
 // The kind that is asked for: 4 or 8, 8 where nothing is said, 0 where it is another word.
-pub fn given_kind(options: Options) -> u8 {
+pub fn given_kind(rt: &HostRuntime, options: Options) -> u8 {
     if options.kind == 0 {
         return 8;
     }
     let mut word = [0u8; 2];
-    let n = os::arg(options.kind, &mut word);
+    let n = words::fetch(rt, options.kind, &mut word).length;
     if check::same(&word[..n], b"4") {
         return 4;
     }

@@ -2,6 +2,8 @@
 use crate::Command;
 use decimal::Decimal;
 use motion_floats::Scale;
+use tool_io::words;
+use tool_io::words::Word;
 
 // A scale, and whether it could be read.
 #[derive(Clone, Copy)]
@@ -44,10 +46,16 @@ fn number_of(text: &[u8]) -> Number {
     }
 }
 
-fn given_number(which: usize) -> Number {
+// Whether a word is missing, or longer than its buffer.
+fn is_less(word: Word) -> bool {
+    if word.cut { true } else { word.missing }
+}
+
+fn given_number(rt: &HostRuntime, which: usize) -> Number {
     let mut text = io::buffer();
-    let n = os::arg(crate::plain_word(which), &mut text);
-    if os::errno() != 0 {
+    let got = words::fetch(rt, crate::plain_word(rt, which), &mut text);
+    let n = got.length;
+    if is_less(got) {
         return Number {
             value: 0.0,
             ok: false,
@@ -57,10 +65,11 @@ fn given_number(which: usize) -> Number {
 }
 
 // Whether the last of a scale's three words is a number. If it is none, and no input is named, an offset was forgotten.
-fn is_number() -> bool {
+fn is_number(rt: &HostRuntime) -> bool {
     let mut text = io::buffer();
-    let n = os::arg(crate::plain_word(2), &mut text);
-    if os::errno() != 0 {
+    let got = words::fetch(rt, crate::plain_word(rt, 2), &mut text);
+    let n = got.length;
+    if is_less(got) {
         return true;
     }
     let number = decimal::number_of(&text[..n]);
@@ -72,9 +81,9 @@ fn is_number() -> bool {
 }
 
 // Whether a command that no input is named for has its whole scale.
-pub fn is_complete(command: Command) -> bool {
+pub fn is_complete(rt: &HostRuntime, command: Command) -> bool {
     if crate::is_motions(command) {
-        is_number()
+        is_number(rt)
     } else {
         true
     }
@@ -85,10 +94,10 @@ fn all(a: bool, b: bool, c: bool) -> bool {
 }
 
 // Half pitch and offsets; a number with too many digits is refused in words.
-pub fn given_scale() -> Given {
-    let half_pitch = given_number(0);
-    let column_offset = given_number(1);
-    let row_offset = given_number(2);
+pub fn given_scale(rt: &HostRuntime) -> Given {
+    let half_pitch = given_number(rt, 0);
+    let column_offset = given_number(rt, 1);
+    let row_offset = given_number(rt, 2);
     let ok = all(half_pitch.ok, column_offset.ok, row_offset.ok);
     if !ok {
         tool_io::messages::say(b"jobtool", b"a number of the scale has more than 15 digits");
@@ -104,9 +113,9 @@ pub fn given_scale() -> Given {
 }
 
 // The scale that a command is given; a command that takes none has one of zeros.
-pub fn scale_of(command: Command) -> Given {
+pub fn scale_of(rt: &HostRuntime, command: Command) -> Given {
     if crate::is_motions(command) {
-        given_scale()
+        given_scale(rt)
     } else {
         none()
     }
