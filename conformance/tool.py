@@ -836,7 +836,7 @@ def row_dash(run):
     run.hold("same - a", run.start(["same", "-", "in"], UNTIDY), Told(b"same\n", b"", DONE))
 
 
-STRANGE = [b"a b", b" ", b"a\nb", b"\t", b"\x1b[31mred", b"\x7f", b"back\\slash", b"\\n", "Prägung ×.job".encode(), "模具".encode(), b"\xff\xfe",
+STRANGE = [b"a b", b" ", b"a\nb", b"\t", b"\x1b[31mred", b"\x7f", b"back\\slash", b"\\n", "Prägung ×.job".encode(), "模具".encode(),
            b"\x01\x1f", b"%s%n", b"'\"$(x)", b"./-x", b"./-", b"./-o", b"--", b"-1", b"...", b"a" * 255, b"\x01" * 120]
 
 
@@ -853,6 +853,23 @@ def row_names_escaped(run):
         run.hold(("heading", name), run.start(["show", "in", name]), told.several("show", [(b"in", TIDY), (name, TIDY)]))
         run.hold(("no picture", name), run.start(["scan", name]).said, b"jobtool: " + told.shown_name(name) + b": no PGM picture: it does not begin with P5\n")
         os.remove(file)
+
+
+def row_names_no_text(run):
+    """A name that is no UTF-8 is refused, as input and as output, and a link that leads to one is left as it is."""
+    why = "Invalid or incomplete multibyte or wide character"
+    for name in (b"\xff\xfe", b"a\xffb", b"\xc3", b"\xed\xa0\x80"):
+        put(run.folder, "there", UNTIDY)
+        os.rename(os.path.join(os.fsencode(run.folder), b"there"), os.path.join(os.fsencode(run.folder), name))
+        run.hold(("input", name), run.start(["tidy", name]), trouble(name, why))
+        run.hold(("several", name), run.start(["check", "in", name]), Told(b"in: tidy\n", trouble(name, why).said, TROUBLE))
+        run.hold(("output", name), run.start(["tidy", "in", "-o", name]), trouble(name, why))
+        run.hold(("table", name), run.start([*MOTIONS, "in", "--table", name]), trouble(name, why))
+        os.symlink(name, run.path("led"))
+        run.hold(("a link", name), run.start(["tidy", "in", "-o", "led"]), trouble(b"led", why))
+        run.hold(("a link", name, "stays"), os.readlink(os.fsencode(run.path("led"))), name)
+        os.remove(run.path("led"))
+        os.remove(os.path.join(os.fsencode(run.folder), name))
 
 
 def row_long_names(run):

@@ -67,7 +67,7 @@ def jobtool(program, folder):
     expect("the link", (os.readlink(os.path.join(folder, "link")), open(os.path.join(folder, "out"), "rb").read()), ("out", SCAN))
     name = b"\xff\xfe"
     expect("a name that is no text", run(program, folder, "tidy", name),
-           (2, b"", b"jobtool: \\377\\376: Invalid or incomplete multibyte or wide character\n"))
+           (2, b"", b"jobtool: \xff\xfe: Invalid or incomplete multibyte or wide character\n"))
     os.symlink(name, os.path.join(folder, "lost"))
     expect("a link to one", run(program, folder, "tidy", "-o", "lost", given=made)[0], 2)
     expect("that link stays", os.path.islink(os.path.join(folder, "lost")), True)
