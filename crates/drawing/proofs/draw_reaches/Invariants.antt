@@ -1,13 +1,8 @@
 -- `draw_reaches` goes from the largest reach down: the invariant is that the map on the box is drawn by the balls, each narrower by the reach
-use mathlib.Core.Path.{◌∙◌}
 use Prim.Native.Nat.{◌≤◌}
-use native.Mathlib.Omega.{arith}
 use Rattle.buffers.specs.Fill.{Mapped}
 use Rattle.drawing_box.specs.Boxed.{part_of, plunges_on}
-use Rattle.drawing_box.proofs.Boxed.{placeable-fits}
 use Rattle.drawing.specs.Reaches.{drawn_from}
-use Rattle.drawing.proofs.Files.{mapped-on, mapped-self, level-first, reach-margin, level-next, level-last}
-use Rattle.drawing.proofs.Boxes.{part-plate, part-filterable, filtered-part}
 use Rattle.drawing.proofs.draw_reaches.Given as goal
 
 abbrev pub invariant-loop-reach : goal.invariant-loop-reach

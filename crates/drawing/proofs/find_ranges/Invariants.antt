@@ -1,10 +1,6 @@
 -- `find_ranges` widens the stretch of each plunge's reach: the invariant is `Ranges` up to the plunge reached.
 use Prim.Native.Nat.{◌-◌, ◌≤◌}
-use native.Mathlib.Omega.{arith}
-use borrow.Author.Rules.{rules}
 use Rattle.drawing.specs.Files.{reach_in, Ranges}
-use Rattle.drawing_box.proofs.Rooms.{told-reach}
-use Rattle.drawing.proofs.Files.{ranges-none, ranges_more, ranges-end}
 use Rattle.drawing.proofs.find_ranges.Given as goal
 
 abbrev pub invariant-loop-i : goal.invariant-loop-i

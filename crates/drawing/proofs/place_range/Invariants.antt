@@ -1,9 +1,7 @@
 -- `place_range` places one plunge after another: the invariant is `Raised` up to the plunge reached.
 use Prim.Native.Nat.{◌-◌, ◌≤◌}
-use native.Mathlib.Omega.{arith}
 use Rattle.drawing_box.specs.Boxed.{part_of, plunge_in}
 use Rattle.drawing.specs.Files.{Raised}
-use Rattle.drawing.proofs.Files.{raised-none, raised-on, raised-end}
 use Rattle.drawing.proofs.place_range.Given as goal
 
 abbrev pub invariant-loop-i : goal.invariant-loop-i
