@@ -2,6 +2,7 @@
 // grows by one, then the plunges of the next reach are placed. At the end the box is spread out over the plate.
 // Where the reaches of a list rise, each plunge is read two or three times; in any other order at most once more for each reach.
 #![tactic(auto)]
+
 ghost use Rattle.std.specs.Prelude.{◌≡◌, ◌+◌, ◌≤◌, ◌<◌, cond, eqb, length, replicate};
 ghost use Rattle.geometry.specs.Plate.{area};
 ghost use Rattle.theory.specs.Listing.{drawn};

@@ -1,5 +1,6 @@
 // The listing of a relief, sent run by run in its order: written to an output, compared with a file, or staged.
 #![tactic(auto)]
+
 ghost use Rattle.std.specs.Prelude.{◌≡◌, ◌+◌, ◌*◌, ◌≤◌, ◌<◌, length, get_or, drop};
 ghost use Rattle.theory.specs.Listing.{listing};
 ghost use Rattle.geometry.specs.Lists.{common};
