@@ -24,7 +24,7 @@ use Rattle.refusal.proofs.Refusals.{shortest-two, same-verdict, map-sound, answe
 use Rattle.refusal.proofs.Trials.{and_then, first-append}
 use Rattle.buffers.specs.Fill.{Mapped, PlateOnly}
 use Rattle.buffers.proofs.Fill.{mapped-bytes, surplus-drop}
-use Rattle.fields.specs.Fields.{encoded, file_length, place}
+use Rattle.fields.specs.Fields.{encoded, file_length}
 use Rattle.reading.specs.Reading.{IsReadable, file_trials, head_in, plunges_up_to, total}
 use Rattle.reading.specs.declared.Job.{Job}
 use Rattle.reading.proofs.Readable.{readable-sound}

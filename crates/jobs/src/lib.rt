@@ -1,5 +1,6 @@
 // Calls on plunge files: drawing, listing, tidying. Each tries its arguments and buffers first, in document 01's order.
 #![tactic(auto)]
+
 ghost use Rattle.std.specs.Prelude.{◌≡◌, min};
 ghost use Rattle.geometry.specs.Plate.{area};
 ghost use Rattle.jobs.specs.Calls.{Drawn, ListCall, TidyCall};
