@@ -1,5 +1,6 @@
 // The list of a scan's relief.
 #![tactic(auto)]
+
 ghost use Rattle.jobs.specs.Calls.{ListCall};
 ghost use Rattle.scan.specs.Scan.{byte_in, depths};
 
