@@ -1,5 +1,6 @@
 // A job's figures by the relief that it draws: the volume, and whether the file is tidy.
 #![tactic(auto)]
+
 ghost use Rattle.std.specs.Prelude.{◌≡◌, ◌≤◌, length};
 ghost use Rattle.geometry.specs.Plate.{area};
 ghost use Rattle.reading.specs.Reading.{head_in};

@@ -1,5 +1,6 @@
 // What a planner reads of a job file before a quote: its figures, and the text of them.
 #![tactic(auto)]
+
 ghost use Rattle.std.specs.Prelude.{◌≡◌, ◌++◌, ◌≤◌, length};
 ghost use Rattle.io.specs.Counts.{IsPrefixLen};
 ghost use Rattle.reading.specs.Reading.{plunges_in};

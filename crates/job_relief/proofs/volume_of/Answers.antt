@@ -1,0 +1,20 @@
+-- `volume_of` draws the file into the work buffer and adds up the plate's bytes.
+use mathlib.Core.Path.{sym, ◌∙◌}
+use Rattle.job_relief.proofs.Relief.{drawn-kept, volume-given, volume-refused}
+use Rattle.job_relief.proofs.volume_of.Goals as goal
+
+pub returns-in-NoVolume : goal.returns-in-NoVolume
+returns-in-NoVolume c =
+    absurd
+    (volume-refused c.args.file.now c.args.work.now c.requires.0.readable
+    c.requires.1 _ _ c.draw.ensures _ _ c.requires.0.head
+    (sym c.in-NoVolume.is ∙ c.volume-answer.ensures))
+
+pub returns-in-Volume : goal.returns-in-Volume
+returns-in-Volume c = (
+  volume-given c.args.file.now c.args.work.now c.requires.0.readable
+      c.requires.1 _ _ c.draw.ensures _ _ c.requires.0.head
+      (sym c.in-Volume.is ∙ c.volume-answer.ensures),
+  drawn-kept c.args.file.now c.args.work.now c.requires.0.readable
+      c.requires.1 _ _ c.draw.ensures,
+)
