@@ -31,7 +31,7 @@ compare-requires c =
     check-asks c.args.file.now _ w c.args.a.now c.args.b.now
     c.args.c.now _ c.shortest-room.ensures
     (omega (arith, c.if-room-cells_of.false, c.cells_of.ensures))
-    (λ i. (c.shared_slice_known-1.given i).fits) _ c.draw_into.ensures
+    (λ i. (c.type_inv.file i).fits) _ c.draw_into.ensures
 
 pub returns-in-Unreadable : goal.returns-in-Unreadable
 returns-in-Unreadable c =
