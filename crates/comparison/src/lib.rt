@@ -1,5 +1,6 @@
 // Whether two job files cut the same relief, and the first cell where they do not.
 #![tactic(auto)]
+
 ghost use Rattle.std.specs.Prelude.{◌≡◌, ◌≤◌, length};
 ghost use Rattle.geometry.specs.Plate.{area};
 ghost use Rattle.refusal.specs.Sides.{Sides};

@@ -1,5 +1,6 @@
 // The tidy check: whether tidying would return a file's own bytes.
 #![tactic(auto)]
+
 ghost use Rattle.buffers.specs.Fill.{PlateOnly};
 ghost use Rattle.job_check.specs.Checking.{CheckCall};
 ghost use Rattle.job_check.specs.Comparing.{Comparable, Compared};
