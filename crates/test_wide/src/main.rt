@@ -1,7 +1,7 @@
 // Clearances in two bytes a cell, and drawing back from them, on plates past 240 cells.
 #![tactic(auto)]
 
-ghost use Rattle.std.specs.Prelude.{◌≡◌, ◌<◌};
+ghost use Rattle.std.specs.Prelude.{◌≡◌, ◌<◌, length};
 ghost use Rattle.geometry.specs.Plate.{area};
 
 use geometry::{Head, Kind};
@@ -16,6 +16,34 @@ fn cells_of(head: Head) -> usize
 {
     (head.height as usize) * (head.width as usize)
 }
+
+// ---- buffers, as every call finds them
+
+fn relief_room() -> [u8; CELLS]
+    ensures { 270400 ≡ length result }
+{
+    [0; CELLS]
+}
+
+fn map_room() -> [u8; 2 * CELLS + 1]
+    ensures { 540801 ≡ length result }
+{
+    [UNTOUCHED; 2 * CELLS + 1]
+}
+
+fn marks_room() -> [u8; CELLS + 1]
+    ensures { 270401 ≡ length result }
+{
+    [UNTOUCHED; CELLS + 1]
+}
+
+fn first_room() -> [u8; 2 * CELLS]
+    ensures { 540800 ≡ length result }
+{
+    [0; 2 * CELLS]
+}
+
+// ---- calls
 
 fn print_head(what: &[u8], head: Head) {
     let kind = head.kind;
@@ -79,7 +107,7 @@ fn draw_back(head: Head, map: &[u8], marks: &mut [u8]) {
 }
 
 fn print_back(head: Head, map: &[u8]) {
-    let mut marks = [UNTOUCHED; CELLS + 1];
+    let mut marks = marks_room();
     draw_back(head, map, &mut marks);
     print_head(b"back", head);
     print_map(&marks, cells_of(head));
@@ -87,8 +115,8 @@ fn print_back(head: Head, map: &[u8]) {
 
 // Clearances of a pattern at a level, and what they reach.
 fn run_clearances(head: Head, pattern: u8, seed: u8, level: u8) {
-    let mut relief = [0u8; CELLS];
-    let mut map = [UNTOUCHED; 2 * CELLS + 1];
+    let mut relief = relief_room();
+    let mut map = map_room();
     test_io::fill_relief(
         &mut relief,
         pattern,
@@ -105,7 +133,7 @@ fn run_clearances(head: Head, pattern: u8, seed: u8, level: u8) {
 
 // What a map reaches whose first 13 bytes are a number, and all others 0.
 fn run_first(head: Head, number: u8) {
-    let mut map = [0u8; 2 * CELLS];
+    let mut map = first_room();
     test_io::fill_relief(&mut map, test_io::COLUMNS, number, 2 * CELLS, 1, b"");
     print_back(head, &map);
 }

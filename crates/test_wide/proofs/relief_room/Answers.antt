@@ -1,0 +1,7 @@
+-- `relief_room`: so many bytes, without counting them.
+use Rattle.std.proofs.Common.{sym, ℕ}
+use Rattle.std.proofs.lemmas.List.{length-replicate}
+use Rattle.test_wide.proofs.relief_room.Goals as goal
+
+pub returns : goal.returns
+returns c = sym (length-replicate {A = ℕ} 270400 0)
