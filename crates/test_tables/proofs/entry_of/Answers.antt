@@ -3,16 +3,9 @@ use Prim.Native.Nat.{◌*◌, ◌≤◌}
 use native.Mathlib.Omega.{arith}
 use native.Mathlib.Nat.{mul-le-mul}
 use borrow.Author.Rules.{rules}
-use Rattle.test_tables.proofs.entry_of.Statement.{statement}
-use Rattle.test_tables.proofs.entry_of.Tie as tie
+use Rattle.test_tables.proofs.entry_of.Goals as goal
 
-mul-result : tie.Need-overflow-mul-result
-mul-result c =
+pub overflow_mul-result : goal.overflow_mul-result
+overflow_mul-result c =
     let s : c.args.step ≤ 255 = omega arith in
     let p : c.args.step * c.args.i ≤ 255 * 255 = mul-le-mul {m₂ = 255} s (omega arith) in omega arith
-
-returns : tie.Need-returns
-returns c = search rules
-
-pub entry-of-spec : {M : Type 1} → statement M
-entry-of-spec = tie.close (tie.spec mul-result returns)
