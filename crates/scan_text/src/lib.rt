@@ -1,5 +1,6 @@
 // The whole work of the program `plunges`: a scan comes in, a text goes out, on slices alone.
 #![tactic(auto)]
+
 ghost use Rattle.std.specs.Prelude.{◌≡◌, ◌≤◌, length};
 ghost use Rattle.io.specs.Counts.{IsPrefixLen};
 ghost use Rattle.numerals.specs.Numerals.{Puts};

@@ -3,14 +3,10 @@ use mathlib.Core.Path.{◌≡◌, sym}
 use Prim.Native.Nat.{ℕ}
 use lib.ListN.{length, replicate, length-replicate}
 use Rattle.scan_text.specs.Program.{file_buffer}
-use Rattle.scan_text.proofs.file_buffer.Statement.{statement}
-use Rattle.scan_text.proofs.file_buffer.Tie as tie
+use Rattle.scan_text.proofs.file_buffer.Goals as goal
 
 zeros-length : (n : ℕ) → n ≡ length {A = ℕ} (replicate n 0)
 zeros-length n = sym (length-replicate n 0)
 
-returns : tie.Need-returns
+pub returns : goal.returns
 returns c = zeros-length file_buffer
-
-pub file-buffer-spec : {M : Type 1} → statement M
-file-buffer-spec = tie.close (tie.spec returns)
