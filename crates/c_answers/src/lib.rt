@@ -1,5 +1,6 @@
 // The structs of numbers that the C calls give back, and the answers of the calls inside told in them. include/haruseopda.h is their manual.
 #![tactic(auto)]
+
 ghost use Rattle.std.specs.Prelude.{◌≡◌};
 ghost use Rattle.c_answers.specs.Told.{of_verdict, of_cell, of_volume};
 ghost use Rattle.c_answers.specs.Jobs.{of_read, of_list, of_motion, of_three, of_motions};
