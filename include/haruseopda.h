@@ -16,7 +16,8 @@
  *     Nothing else is asked of any argument.
  *   - ends, for every content and length, with number 0 (done) or the first refusal of the table in its order. A refusal leaves every output as it
  *     was; work buffers too, but after 5 and 12 their first width * height bytes hold anything, as they do when the call is done.
- *   - may be made from several threads at once, if they share no buffer that one of them writes. It takes less than 48 KiB of stack (40 measured, with an older kit).
+ *   - may be made from several threads at once, if they share no buffer that one of them writes. It takes less than 48 KiB of stack (40
+ *     measured, with an older kit).
  *
  * Refusals (place is 0 unless said otherwise), tried in the order 1, 2, 3; the file's 6 to 11, 1 and 2 in reading order; then 4, 13, 14, 12, 15, 5:
  *    1  kind is not 4 or 8 (in a file: at the head field)

@@ -5,7 +5,7 @@
     python3 tests/test_files.py --check   only compares: ends with 1 if a file differs
 
 Its author had read the library's source, so it is another computation and not another team's implementation. The records are two stores since
-'rt try' ends its interpreter after 10 million steps, and every other run at a time limit: test_files stays below both, test_files_large does not.
+'rt try' ends its interpreter after some million steps, and every other run at a time limit: test_files stays below both, test_files_large does not.
 
 How each answer is computed (cells off the plate have depth 0 throughout):
   drawing  plates of at most 100 cells: each cell against every plunge, by distance. All plates: the balls are painted in

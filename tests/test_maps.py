@@ -7,7 +7,7 @@ than the library's.
 
 Its author had read the library's source, so it is another computation and not another team's implementation.
 test_maps has the blocks, small plates and refusals, which 'rt try' runs too; test_maps_large has the long and the large plates:
-'rt try' ends its interpreter after 10 million steps, which these would pass.
+'rt try' ends its interpreter after some million steps, which these would pass.
 
 How each number is computed (cells off the plate have depth 0 throughout):
   erosions   (rungs) plates of at most 100 cells: the lowest depth over every cell of the ball, off-plate cells included.
