@@ -1,5 +1,6 @@
 // The library that a control links: every call as a C function, with the same promise as the call inside. include/haruseopda.h is its manual.
 #![tactic(auto)]
+
 ghost use Rattle.std.specs.Prelude.{◌≡◌};
 ghost use Rattle.residue_scores.specs.declared.Score.TheVariants.{Largest, Sum};
 ghost use Rattle.clearance_cell.specs.Calls.{clearance_answer};

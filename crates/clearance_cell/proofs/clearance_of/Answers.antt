@@ -18,7 +18,7 @@ overflow_cast-result c =
     { wrong = c.is_wrong_cell-wrong.result; tested = c.is_wrong_cell-wrong.ensures; first = c.check_map-verdict.ensures } in
     let ready : let c = c in let given = c.args in
     Ready c.head_of-head.result given.relief.now given.level given.column given.row = let c = c in rw c.head_of-head.ensures
-        (accepted (judged) c.in-Accepted.is) in omega (arith, c.nearest_wall-nearest.ensures, (ready).fits)
+    (accepted (judged) c.in-Accepted.is) in omega (arith, c.nearest_wall-nearest.ensures, (ready).fits)
 
 pub returns-in-Accepted : goal.returns-in-Accepted
 returns-in-Accepted c =

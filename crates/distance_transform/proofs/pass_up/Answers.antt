@@ -15,13 +15,13 @@ overflow_sub-y c = c.requires.0.tall
 pub overflow_mul-y : goal.overflow_mul-y
 overflow_mul-y c =
     let last_row : (c.args.head.height - 1) * c.args.head.width + c.args.head.width ≤ length c.args.out.now =
-        row_room c.args.head.width (c.args.head.height - 1) c.args.head.height _ (omega (arith, c.requires.0.tall)) c.requires.1 in
+    row_room c.args.head.width (c.args.head.height - 1) c.args.head.height _ (omega (arith, c.requires.0.tall)) c.requires.1 in
     omega (arith, last_row)
 
 pub load_run-requires : goal.load_run-requires
 load_run-requires c =
     let last_row : (c.args.head.height - 1) * c.args.head.width + c.args.head.width ≤ length c.args.out.now =
-        row_room c.args.head.width (c.args.head.height - 1) c.args.head.height _ (omega (arith, c.requires.0.tall)) c.requires.1 in (
+    row_room c.args.head.width (c.args.head.height - 1) c.args.head.height _ (omega (arith, c.requires.0.tall)) c.requires.1 in (
       last_row,
       c.requires.0.narrow,
       refl,

@@ -12,23 +12,23 @@ loop-y-init c = (sides-none _ _ _, omega arith)
 pub overflow_mul-dst : goal.overflow_mul-dst
 overflow_mul-dst c =
     let room : (y : ℕ) → y < c.args.height → SidesRoom c.args.width y (length c.args.dst.now) =
-        λ y a. sides-room c.args.width y c.args.height _ c.requires.0 a c.requires.1 in omega (arith, room c.loop-y.y c.loop-y-test.true)
+    λ y a. sides-room c.args.width y c.args.height _ c.requires.0 a c.requires.1 in omega (arith, room c.loop-y.y c.loop-y-test.true)
 
 pub bounds-dst-y : goal.bounds-dst-y
 bounds-dst-y c =
     let room : (y : ℕ) → y < c.args.height → SidesRoom c.args.width y (length c.args.dst.now) =
-        λ y a. sides-room c.args.width y c.args.height _ c.requires.0 a c.requires.1 in omega
-            (arith, room c.loop-y.y c.loop-y-test.true, c.loop-y.invariant.0.same)
+    λ y a. sides-room c.args.width y c.args.height _ c.requires.0 a c.requires.1 in omega
+    (arith, room c.loop-y.y c.loop-y-test.true, c.loop-y.invariant.0.same)
 
 pub overflow_mul-dst-in-loop-y : goal.overflow_mul-dst-in-loop-y
 overflow_mul-dst-in-loop-y c =
     let room : (y : ℕ) → y < c.args.height → SidesRoom c.args.width y (length c.args.dst.now) =
-        λ y a. sides-room c.args.width y c.args.height _ c.requires.0 a c.requires.1 in omega (arith, room c.loop-y.y c.loop-y-test.true)
+    λ y a. sides-room c.args.width y c.args.height _ c.requires.0 a c.requires.1 in omega (arith, room c.loop-y.y c.loop-y-test.true)
 
 pub overflow_add-dst : goal.overflow_add-dst
 overflow_add-dst c =
     let room : (y : ℕ) → y < c.args.height → SidesRoom c.args.width y (length c.args.dst.now) =
-        λ y a. sides-room c.args.width y c.args.height _ c.requires.0 a c.requires.1 in omega (arith, room c.loop-y.y c.loop-y-test.true)
+    λ y a. sides-room c.args.width y c.args.height _ c.requires.0 a c.requires.1 in omega (arith, room c.loop-y.y c.loop-y-test.true)
 
 pub bounds-dst-y-in-loop-y : goal.bounds-dst-y-in-loop-y
 bounds-dst-y-in-loop-y c =

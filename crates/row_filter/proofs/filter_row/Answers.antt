@@ -10,21 +10,21 @@ use Rattle.row_filter.proofs.filter_row.Goals as goal
 pub overflow_mul-from : goal.overflow_mul-from
 overflow_mul-from c =
     let stretch : c.args.y * c.args.head.width + c.args.edge + (c.args.head.width - 2 * c.args.edge) ≤ length c.args.map.now =
-        between c.args.head.width c.args.edge c.args.y c.args.head.height _ c.requires.some
+    between c.args.head.width c.args.edge c.args.y c.args.head.height _ c.requires.some
     (omega (arith, c.requires.here)) c.requires.long in
     omega (arith, stretch)
 
 pub overflow_add-from : goal.overflow_add-from
 overflow_add-from c =
     let stretch : c.args.y * c.args.head.width + c.args.edge + (c.args.head.width - 2 * c.args.edge) ≤ length c.args.map.now =
-        between c.args.head.width c.args.edge c.args.y c.args.head.height _ c.requires.some
+    between c.args.head.width c.args.edge c.args.y c.args.head.height _ c.requires.some
     (omega (arith, c.requires.here)) c.requires.long in
     omega (arith, stretch)
 
 pub filter_run-requires : goal.filter_run-requires
 filter_run-requires c =
     let stretch : c.args.y * c.args.head.width + c.args.edge + (c.args.head.width - 2 * c.args.edge) ≤ length c.args.map.now =
-        between c.args.head.width c.args.edge c.args.y c.args.head.height _ c.requires.some
+    between c.args.head.width c.args.edge c.args.y c.args.head.height _ c.requires.some
     (omega (arith, c.requires.here)) c.requires.long in (
       stretch,
       omega (arith, c.requires.sides.narrow),

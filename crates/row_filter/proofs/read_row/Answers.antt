@@ -11,21 +11,21 @@ pub overflow_mul-y : goal.overflow_mul-y
 overflow_mul-y c =
     let stretch : c.args.y < c.args.head.height
     → c.args.y * c.args.head.width + c.args.edge + (c.args.head.width - 2 * c.args.edge) ≤ length c.args.map.now =
-        λ h. between c.args.head.width c.args.edge c.args.y c.args.head.height _ c.requires.some h c.requires.long in
+    λ h. between c.args.head.width c.args.edge c.args.y c.args.head.height _ c.requires.some h c.requires.long in
     omega (arith, stretch (omega (arith, c.if-y-edge.true)))
 
 pub overflow_add-y-then-y-edge : goal.overflow_add-y-then-y-edge
 overflow_add-y-then-y-edge c =
     let stretch : c.args.y < c.args.head.height
     → c.args.y * c.args.head.width + c.args.edge + (c.args.head.width - 2 * c.args.edge) ≤ length c.args.map.now =
-        λ h. between c.args.head.width c.args.edge c.args.y c.args.head.height _ c.requires.some h c.requires.long in
+    λ h. between c.args.head.width c.args.edge c.args.y c.args.head.height _ c.requires.some h c.requires.long in
     omega (arith, stretch (omega (arith, c.if-y-edge.true)))
 
 pub load_run-requires : goal.load_run-requires
 load_run-requires c =
     let stretch : c.args.y < c.args.head.height
     → c.args.y * c.args.head.width + c.args.edge + (c.args.head.width - 2 * c.args.edge) ≤ length c.args.map.now =
-        λ h. between c.args.head.width c.args.edge c.args.y c.args.head.height _ c.requires.some h c.requires.long in (
+    λ h. between c.args.head.width c.args.edge c.args.y c.args.head.height _ c.requires.some h c.requires.long in (
       omega (arith, stretch (omega (arith, c.if-y-edge.true))),
       omega (arith, c.requires.sides.narrow),
       c.requires.margins.size,

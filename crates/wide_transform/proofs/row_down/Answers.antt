@@ -14,14 +14,14 @@ use Rattle.wide_transform.proofs.row_down.Goals as goal
 pub overflow_mul-y : goal.overflow_mul-y
 overflow_mul-y c =
     let row_within : c.args.y * c.args.head.width + c.args.head.width ≤ length (wide_numbers c.args.out.now) =
-        row_room c.args.head.width c.args.y c.args.head.height _ c.requires.here c.requires.room in
+    row_room c.args.head.width c.args.y c.args.head.height _ c.requires.here c.requires.room in
     let bytes-within : 2 * (c.args.y * c.args.head.width + c.args.head.width) ≤ length c.args.out.now = wide_room c.args.out.now _ (row_within) in
     omega (arith, bytes-within)
 
 pub merge_row-requires : goal.merge_row-requires
 merge_row-requires c =
     let row_within : c.args.y * c.args.head.width + c.args.head.width ≤ length (wide_numbers c.args.out.now) =
-        row_room c.args.head.width c.args.y c.args.head.height _ c.requires.here c.requires.room in
+    row_room c.args.head.width c.args.y c.args.head.height _ c.requires.here c.requires.room in
     record {
       room = row_within;
       narrow = c.requires.held.narrow;
