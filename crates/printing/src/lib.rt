@@ -1,5 +1,6 @@
 // Texts to a file descriptor: the line of a refusal, and the text of a job file, page by page.
 #![tactic(auto)]
+
 ghost use Rattle.reading.specs.Steps.{JobOf};
 
 use reading::{Job, ReadAnswer};

@@ -1,5 +1,6 @@
 // What a command makes of its input: bytes, a text, or a refusal.
 #![tactic(auto)]
+
 ghost use Rattle.std.specs.Prelude.{◌≤◌, length};
 ghost use Rattle.reading.specs.Steps.{JobOf};
 
