@@ -1,0 +1,14 @@
+-- `haru_largest_residue_map` tells what the inner call answers to narrowed numbers, and by its law that is the answer to the numbers given.
+use Rattle.residue_scores.specs.declared.Score.TheVariants.{Largest}
+use Rattle.haruseopda.proofs.Promises.{score-map-promise}
+use Rattle.haruseopda.proofs.haru_largest_residue_map.Goals as goal
+
+pub returns : goal.returns
+returns c =
+    let given = c.args in (
+      _,
+      score-map-promise given.kind given.width given.height _ c.narrow_plate-plate.ensures
+          given.relief.now given.out.now _ given.a.now _ given.b.now _ Largest _
+          c.score_map.ensures,
+      c.of_verdict.ensures,
+    )
