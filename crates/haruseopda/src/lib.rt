@@ -1,4 +1,4 @@
-// The library that a control links: every call as a C function, with the same promise as the call inside. include/haruseopda.h is its manual.
+// Every call as a C function, with the same promise as the call inside; `haruseopda_c` exports them. include/haruseopda.h is the manual.
 #![tactic(auto)]
 
 ghost use Rattle.std.specs.Prelude.{◌≡◌};
