@@ -1,0 +1,10 @@
+-- The next record begins behind this one.
+use Prim.Native.Nat.{◌-◌}
+use lib.ListN.{length}
+use Rattle.test_plunges.proofs.run_records.Given as goal
+
+abbrev pub invariant-loop-at : goal.invariant-loop-at
+invariant-loop-at l = Unit {0}
+
+abbrev pub decreases-loop-at : goal.decreases-loop-at
+decreases-loop-at l = length l.s - l.at
