@@ -6,13 +6,8 @@ ghost use Rattle.c_answers.specs.Told.{of_verdict, of_cell, of_volume};
 ghost use Rattle.c_answers.specs.Jobs.{of_read, of_list, of_motion, of_three, of_motions};
 ghost use Rattle.c_answers.specs.Ports.{of_port};
 
-use clearance_cell::CellAnswer;
-use erosion_maps::VolumeAnswer;
-use listing::ListAnswer;
-use motion::MotionAnswer;
 use motion_floats::{Motion, Motions};
 use port::{Port, PortAnswer};
-use reading::ReadAnswer;
 use refusal::Verdict;
 
 // ---- maps
@@ -30,12 +25,12 @@ pub fn of_verdict(verdict: Verdict) -> HaruAnswer
     ensures { result ≡ of_verdict verdict }
 {
     match verdict {
-        Verdict::Accepted => HaruAnswer {
+        Ok(()) => HaruAnswer {
             number: 0,
             value: 0,
             place: 0,
         },
-        Verdict::Refused(r) => HaruAnswer {
+        Err(r) => HaruAnswer {
             number: r.number as u32,
             value: 0,
             place: r.place,
@@ -43,16 +38,16 @@ pub fn of_verdict(verdict: Verdict) -> HaruAnswer
     }
 }
 
-pub fn of_cell(answer: CellAnswer) -> HaruAnswer
+pub fn of_cell(answer: Result<Clearance, Refusal>) -> HaruAnswer
     ensures { result ≡ of_cell answer }
 {
     match answer {
-        CellAnswer::Cleared(clearance) => HaruAnswer {
+        Ok(clearance) => HaruAnswer {
             number: 0,
             value: clearance.0 as u32,
             place: 0,
         },
-        CellAnswer::NotCleared(r) => HaruAnswer {
+        Err(r) => HaruAnswer {
             number: r.number as u32,
             value: 0,
             place: r.place,
@@ -60,16 +55,16 @@ pub fn of_cell(answer: CellAnswer) -> HaruAnswer
     }
 }
 
-pub fn of_volume(answer: VolumeAnswer) -> HaruAnswer
+pub fn of_volume(answer: Result<u32, Refusal>) -> HaruAnswer
     ensures { result ≡ of_volume answer }
 {
     match answer {
-        VolumeAnswer::Volume(volume) => HaruAnswer {
+        Ok(volume) => HaruAnswer {
             number: 0,
             value: volume,
             place: 0,
         },
-        VolumeAnswer::NoVolume(r) => HaruAnswer {
+        Err(r) => HaruAnswer {
             number: r.number as u32,
             value: 0,
             place: r.place,
@@ -102,11 +97,11 @@ pub struct HaruListAnswer {
     pub rungs: usize,
 }
 
-pub fn of_read(answer: ReadAnswer) -> HaruJob
+pub fn of_read(answer: Result<Job, Refusal>) -> HaruJob
     ensures { result ≡ of_read answer }
 {
     match answer {
-        ReadAnswer::Readable(job) => {
+        Ok(job) => {
             let head = job.head;
             let kind = head.kind;
             HaruJob {
@@ -118,7 +113,7 @@ pub fn of_read(answer: ReadAnswer) -> HaruJob
                 plunges: job.plunges,
             }
         }
-        ReadAnswer::Unreadable(r) => HaruJob {
+        Err(r) => HaruJob {
             number: r.number as u32,
             kind: 0,
             width: 0,
@@ -129,18 +124,18 @@ pub fn of_read(answer: ReadAnswer) -> HaruJob
     }
 }
 
-pub fn of_list(answer: ListAnswer) -> HaruListAnswer
+pub fn of_list(answer: Result<Extent, Refusal>) -> HaruListAnswer
     ensures { result ≡ of_list answer }
 {
     match answer {
-        ListAnswer::Listed(extent) => HaruListAnswer {
+        Ok(extent) => HaruListAnswer {
             number: 0,
             place: 0,
             bytes: extent.bytes,
             plunges: extent.plunges,
             rungs: extent.erosions,
         },
-        ListAnswer::Unlisted(r) => HaruListAnswer {
+        Err(r) => HaruListAnswer {
             number: r.number as u32,
             place: r.place,
             bytes: 0,
@@ -205,12 +200,12 @@ pub fn of_three(motions: Motions) -> HaruMotions
     moved(change.changed, change.width, travel.x, travel.y, sink.sink)
 }
 
-pub fn of_motions(answer: MotionAnswer) -> HaruMotions
+pub fn of_motions(answer: Result<Motions, Refusal>) -> HaruMotions
     ensures { result ≡ of_motions answer }
 {
     match answer {
-        MotionAnswer::Moves(motions) => of_three(motions),
-        MotionAnswer::NoMoves(r) => HaruMotions {
+        Ok(motions) => of_three(motions),
+        Err(r) => HaruMotions {
             number: r.number as u32,
             changed: 0,
             place: r.place,

@@ -7,13 +7,13 @@ use Prim.Native.Nat.{ℕ, ◌*◌, ◌≤◌, ◌<◌}
 use native.Mathlib.Omega.{arith}
 use borrow.Author.Tests.{leb-false, le-leb, lt-leb, ne_eqb, not-true}
 use lib.Dec.{leb}
-use Rattle.refusal.specs.declared.Verdict.{Verdict}
 use Rattle.refusal.specs.Refusals.{is_side, largest_side, is_erosion_number, largest_erosion, is_level, largest_level, bad_kind, bad_sides, free}
 use Rattle.refusal.proofs.Refusals.{refused, gives_none, sound}
 use Rattle.clearance_cell.specs.Calls.{wrong_cell}
 use Rattle.clearance_cell.proofs.Answers.{Right, right-cell}
 use Rattle.c_arguments.specs.declared.Plate.{Plate}
 use Rattle.c_arguments.specs.Narrow.{narrow, no_byte, narrow_byte, no_word, narrow_word, narrow_plate}
+use Rattle.refusal.specs.Refusals.{Verdict}
 
 -- ---- one argument
 

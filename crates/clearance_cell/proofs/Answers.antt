@@ -1,4 +1,5 @@
 -- From the verdict to the answer: what an accepted call knows of its cell, that its clearance fits a byte, and the answer of every verdict.
+use Rattle.std.specs.Prelude.{Ok}
 use mathlib.Core.Path.{◌≡◌, refl, sym, ap, ◌∙◌}
 use mathlib.Core.Bool.{Bool, true, false, cond, not}
 use mathlib.Core.List.{List, [], ◌∷◌}
@@ -11,12 +12,11 @@ use Rattle.geometry.specs.declared.Head.{Head}
 use Rattle.geometry.specs.Plane.{cell}
 use Rattle.theory.specs.Levels.{clearance}
 use Rattle.theory.proofs.Levels.{clearance-limit}
-use Rattle.refusal.specs.declared.Verdict.{Verdict}
-use Rattle.refusal.specs.declared.Verdict.TheVariants.{Accepted}
 use Rattle.refusal.specs.Refusals.{first_met, map_trials, is_level, head_of, largest_erosion}
 use Rattle.refusal.proofs.Refusals.{map-sound, level-ok}
 use Rattle.clearance_cell.specs.Search.{Searchable}
 use Rattle.clearance_cell.specs.Calls.{clearance_answer, cell_answer, wrong_cell}
+use Rattle.refusal.specs.Refusals.{Verdict}
 
 -- a level, and a cell of a plate of two sides
 pub record Right (t x y w h : ℕ) : Type 0 where
@@ -47,7 +47,7 @@ pub record Judged (m : List ℕ) (k w h t x y : ℕ) (v : Verdict) : Type 0 wher
   pub first : v ≡ first_met (map_trials k w h wrong (length m ∷ []))
 
 module _ {m : List ℕ} {k w h t x y : ℕ} {v : Verdict} (j : Judged m k w h t x y v) where
-  pub accepted : v ≡ Accepted → Ready (head_of k w h) m t x y
+  pub accepted : v ≡ Ok tt → Ready (head_of k w h) m t x y
   accepted e =
       let s = map-sound k w h j.wrong (length m) (sym j.first ∙ e) in
       let r = right-cell t x y w h (sym j.tested ∙ s.right) in

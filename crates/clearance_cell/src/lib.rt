@@ -10,13 +10,6 @@ ghost use Rattle.clearance_cell.specs.Calls.{clearance_answer, wrong_cell};
 use geometry::{Clearance, Head, Kind};
 use refusal::{Refusal, Verdict};
 
-// The clearance, or the first refusal met.
-#[derive(Clone, Copy)]
-pub enum CellAnswer {
-    Cleared(Clearance),
-    NotCleared(Refusal),
-}
-
 // The distance from a cell of the plate to the nearest cell off it.
 fn edge_distance(width: usize, height: usize, column: usize, row: usize) -> usize
     requires { (column < width) × (row < height) }
@@ -105,17 +98,12 @@ pub fn clearance_of(
     level: u8,
     column: u16,
     row: u16,
-) -> CellAnswer
+) -> Result<Clearance, Refusal>
     ensures { result ≡ clearance_answer relief.now kind width height level column row }
 {
     let wrong = is_wrong_cell(level, column, row, width, height);
-    let verdict = refusal::check_map(kind, width, height, wrong, relief.len());
-    match verdict {
-        Verdict::Refused(r) => CellAnswer::NotCleared(r),
-        Verdict::Accepted => {
-            let head = refusal::head_of(kind, width, height);
-            let nearest = nearest_wall(head, relief, level, column as usize, row as usize);
-            CellAnswer::Cleared(Clearance(nearest as u16))
-        }
-    }
+    refusal::check_map(kind, width, height, wrong, relief.len())?;
+    let head = refusal::head_of(kind, width, height);
+    let nearest = nearest_wall(head, relief, level, column as usize, row as usize);
+    Ok(Clearance(nearest as u16))
 }

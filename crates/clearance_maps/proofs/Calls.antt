@@ -1,4 +1,5 @@
 -- Laws of the calls: what an accepted call knows of its plate and buffers, and what each answer leaves in the output.
+use Rattle.std.specs.Prelude.{Ok, Err}
 use mathlib.Core.Path.{◌≡◌, sym, ap, ◌∙◌, subst}
 use mathlib.Core.Bool.{Bool, not}
 use mathlib.Core.List.{List, [], ◌∷◌, ◌++◌}
@@ -11,14 +12,13 @@ use Rattle.geometry.specs.declared.Head.{Head}
 use Rattle.geometry.specs.Plane.{Cell}
 use Rattle.geometry.specs.Plate.{area, tabulated}
 use Rattle.theory.proofs.Plate.{length-tabulated, get_or-tabulated}
-use Rattle.refusal.specs.declared.Verdict.{Verdict}
-use Rattle.refusal.specs.declared.Verdict.TheVariants.{Accepted, Refused}
 use Rattle.refusal.specs.declared.Refusal.{Refusal}
 use Rattle.refusal.specs.Refusals.{trial, first_met, map_trials, is_level, bad_kind, bad_sides, head_of, written, Answered}
 use Rattle.refusal.proofs.Refusals.{Sound, shortest-two, map-sound, level-ok}
 use Rattle.buffers.specs.Fill.{Mapped}
 use Rattle.buffers.proofs.Fill.{mapped-bytes}
 use Rattle.distance_transform.specs.Transform.{Plates}
+use Rattle.refusal.specs.Refusals.{Verdict}
 
 -- a map's bytes in place of a buffer's first ones
 module _ (p : Head) (f : Cell → ℕ) (old : List ℕ) (room : area p ≤ length old) where
@@ -58,13 +58,13 @@ module _ (k w h : ℕ) (wrong : Bool) (m out : List ℕ) where
   by-shorter n e v g = g ∙ smaller-said n e
 
   -- on a refusal an output is as it was, whatever was to be written
-  pub refused-again : (r : Refusal) (new new' out' : List ℕ) (v : Verdict) → Answered said new out out' v → v ≡ Refused r
-      → Answered said new' out out' (Refused r)
+  pub refused-again : (r : Refusal) (new new' out' : List ℕ) (v : Verdict) → Answered said new out out' v → v ≡ Err r
+      → Answered said new' out out' (Err r)
   refused-again r new new' out' v a e =
-      let i : said ≡ Refused r = sym a.answer ∙ e in
+      let i : said ≡ Err r = sym a.answer ∙ e in
       record { answer = sym i; bytes = a.bytes ∙ ap (λ (u : Verdict). written u new out) i ∙ ap (λ (u : Verdict). written u new' out) (sym i) }
 
-  module _ (a : said ≡ Accepted) where
+  module _ (a : said ≡ Ok tt) where
     sound : Sound w h wrong (min (length m) (length out))
     sound = map-sound k w h wrong (min (length m) (length out)) (smaller-said (min (length m) (length out)) (omega arith) ∙ a)
 
@@ -84,7 +84,7 @@ module _ (k w h : ℕ) (wrong : Bool) (m out : List ℕ) where
     accepted-level t e = (level-ok t (sym e ∙ sound.right)).0
 
     pub answered-accepted : (f : Head → Cell → ℕ) (p : Head) (out' : List ℕ) → p ≡ head_of k w h → Mapped p (f p) out out'
-        → Answered said (tabulated (head_of k w h) (f (head_of k w h))) out out' Accepted
+        → Answered said (tabulated (head_of k w h) (f (head_of k w h))) out out' (Ok tt)
     answered-accepted f p out' e g =
         record {
           answer = sym a;

@@ -2,8 +2,8 @@
 use Rattle.std.specs.Prelude.{false, not, List, [], ◌∷◌, ℕ, length}
 use Rattle.geometry.specs.Plate.{tabulated}
 use Rattle.theory.specs.Levels.{clearance, axis, reconstructed}
-use Rattle.refusal.specs.declared.Verdict.{Verdict}
 use Rattle.refusal.specs.Refusals.{first_met, map_trials, is_level, head_of, Answered}
+use Rattle.refusal.specs.Refusals.{Verdict}
 
 -- "3: level 0", where a level is 1 to 255
 abbrev pub level_verdict : List ℕ → ℕ → ℕ → ℕ → ℕ → List ℕ → Verdict

@@ -19,19 +19,14 @@ pub fn clearance_map(
     ensures { ClearanceMap relief.now kind width height level out.old out.new result }
 {
     let shortest = numbers::smaller(relief.len(), out.len());
-    let verdict = refusal::check_map(kind, width, height, level == 0, shortest);
-    match verdict {
-        Verdict::Accepted => {
-            distance_transform::transform(
-                refusal::head_of(kind, width, height),
-                Seeds::Walls(level),
-                relief,
-                out,
-            );
-            Verdict::Accepted
-        }
-        Verdict::Refused(refusal) => Verdict::Refused(refusal),
-    }
+    refusal::check_map(kind, width, height, level == 0, shortest)?;
+    distance_transform::transform(
+        refusal::head_of(kind, width, height),
+        Seeds::Walls(level),
+        relief,
+        out,
+    );
+    Ok(())
 }
 
 // The medial axis of a level, with its clearances.
@@ -45,14 +40,9 @@ pub fn axis_map(
 ) -> Verdict
     ensures { AxisMap relief.now kind width height level out.old out.new result }
 {
-    let verdict = clearance_map(relief, kind, width, height, level, out);
-    match verdict {
-        Verdict::Accepted => {
-            window_filter::filter_map(refusal::head_of(kind, width, height), Leaf::Axis, 0, out);
-            Verdict::Accepted
-        }
-        Verdict::Refused(refusal) => Verdict::Refused(refusal),
-    }
+    clearance_map(relief, kind, width, height, level, out)?;
+    window_filter::filter_map(refusal::head_of(kind, width, height), Leaf::Axis, 0, out);
+    Ok(())
 }
 
 // What a map of clearances reaches: 1 where some cell's number exceeds its distance, else 0.
@@ -60,17 +50,12 @@ pub fn reconstruct(map: &[u8], kind: u8, width: u16, height: u16, out: &mut [u8]
     ensures { Reconstruction map.now kind width height out.old out.new result }
 {
     let shortest = numbers::smaller(map.len(), out.len());
-    let verdict = refusal::check_map(kind, width, height, false, shortest);
-    match verdict {
-        Verdict::Accepted => {
-            distance_transform::transform(
-                refusal::head_of(kind, width, height),
-                Seeds::Numbers,
-                map,
-                out,
-            );
-            Verdict::Accepted
-        }
-        Verdict::Refused(refusal) => Verdict::Refused(refusal),
-    }
+    refusal::check_map(kind, width, height, false, shortest)?;
+    distance_transform::transform(
+        refusal::head_of(kind, width, height),
+        Seeds::Numbers,
+        map,
+        out,
+    );
+    Ok(())
 }

@@ -12,7 +12,7 @@ ghost use Rattle.climb.specs.Climbs.{erosions_taken, OnPlates, part_in, RegionPa
 ghost use Rattle.climb.specs.Climbs.{Turnable, Turning, ClimbingSome, Narrowed, Underway, Stepped};
 
 use bounding_box::Bounds;
-use geometry::{Clearance, Head, MaybeReach, Reach};
+use geometry::{Clearance, Head, Reach};
 use residue_series::Stand;
 use residue_sweep::Places;
 
@@ -61,8 +61,8 @@ fn reach_of(number: usize) -> Reach
 {
     let found = Reach::of_clearance(Clearance(number as u16));
     match found {
-        MaybeReach::OfReach(reach) => reach,
-        MaybeReach::NoReach => Reach::MAX,
+        Some(reach) => reach,
+        None => Reach::MAX,
     }
 }
 

@@ -1,4 +1,5 @@
 -- Maps that hold what files draw, and their comparison.
+use Rattle.std.specs.Prelude.{Ok, Err}
 use mathlib.Core.Path.{◌≡◌, refl, sym, ap, ap₂, ◌∙◌, subst}
 use mathlib.Core.Bool.{Bool, true, false, cond}
 use mathlib.Core.List.{List, ◌++◌}
@@ -14,8 +15,6 @@ use Rattle.geometry.specs.Lists.{common}
 use Rattle.geometry.specs.Plate.{area}
 use Rattle.theory.proofs.Plate.{length-tabulated}
 use Rattle.refusal.specs.declared.Refusal.{Refusal}
-use Rattle.refusal.specs.declared.Verdict.{Verdict}
-use Rattle.refusal.specs.declared.Verdict.TheVariants.{Accepted, Refused}
 use Rattle.refusal.specs.Refusals.{written}
 use Rattle.reading.specs.Reading.{head_trials, head_in}
 use Rattle.reading.proofs.Answers.{file-read}
@@ -26,6 +25,7 @@ use Rattle.comparison.specs.declared.Comparison.{Comparison}
 use Rattle.comparison.specs.declared.Comparison.TheVariants.{Same, OtherKind, OtherSize, OtherCell, FirstRefused, SecondRefused}
 use Rattle.comparison.specs.Comparing.{difference_at, reliefs_compared, compared, comparison_of, second_written, CompareCall}
 use Rattle.comparison.specs.Drawings.{alike_in, maps_compared, plates_compared, Holds, SecondCompared}
+use Rattle.refusal.specs.Refusals.{Verdict}
 
 -- ---- two maps of one plate
 
@@ -65,7 +65,7 @@ same_area p o w h = ap₂ (λ (x y : ℕ). y * x) w h
 
 -- ---- maps that hold the reliefs of two files
 
-pub drawn-holds : (f a a' : List ℕ) → Drawn f a a' Accepted → Holds f a'
+pub drawn-holds : (f a a' : List ℕ) → Drawn f a a' (Ok tt) → Holds f a'
 drawn-holds f a a' d =
     record {
       readable = file-read f _ (sym d.answer);
@@ -117,20 +117,20 @@ module _ (f g a b : List ℕ) (x : Holds f a) (y : Holds g b) where
       go true true false e r = refl
       go true true true e r = maps-same (eqb-true _ _ e) (eqb-true _ _ r)
 
-pub holds-head : (f m : List ℕ) → Holds f m → first_met (head_trials f) ≡ Accepted
+pub holds-head : (f m : List ℕ) → Holds f m → first_met (head_trials f) ≡ Ok tt
 holds-head f m h = readable-head f h.readable
 
 -- ---- the call
 
 module _ (f g b b' : List ℕ) where
-  pub second-refused : (r : Refusal) → Drawn g b b' (Refused r) → SecondCompared f g b b' (SecondRefused r)
-  second-refused r d = record { answer = ap (λ (v : Verdict). comparison_of Accepted v f g) d.answer; bytes = d.bytes }
+  pub second-refused : (r : Refusal) → Drawn g b b' (Err r) → SecondCompared f g b b' (SecondRefused r)
+  second-refused r d = record { answer = ap (λ (v : Verdict). comparison_of (Ok tt) v f g) d.answer; bytes = d.bytes }
 
-  pub second-done : (r : Comparison) → Drawn g b b' Accepted → r ≡ compared f g → SecondCompared f g b b' r
-  second-done r d e = record { answer = e ∙ ap (λ (v : Verdict). comparison_of Accepted v f g) d.answer; bytes = d.bytes }
+  pub second-done : (r : Comparison) → Drawn g b b' (Ok tt) → r ≡ compared f g → SecondCompared f g b b' r
+  second-done r d e = record { answer = e ∙ ap (λ (v : Verdict). comparison_of (Ok tt) v f g) d.answer; bytes = d.bytes }
 
 module _ (f g a a' b : List ℕ) where
-  pub first-refused : (r : Refusal) → Drawn f a a' (Refused r) → CompareCall f g a a' b b (FirstRefused r)
+  pub first-refused : (r : Refusal) → Drawn f a a' (Err r) → CompareCall f g a a' b b (FirstRefused r)
   first-refused r d =
       record {
         answer = ap (λ (v : Verdict). comparison_of v (draw_verdict g b) f g) d.answer;
@@ -138,7 +138,7 @@ module _ (f g a a' b : List ℕ) where
         second = ap (λ (v : Verdict). second_written v (draw_verdict g b) (relief g) b) d.answer;
       }
 
-  pub first_done : (b' : List ℕ) (r : Comparison) → Drawn f a a' Accepted → SecondCompared f g b b' r → CompareCall f g a a' b b' r
+  pub first_done : (b' : List ℕ) (r : Comparison) → Drawn f a a' (Ok tt) → SecondCompared f g b b' r → CompareCall f g a a' b b' r
   first_done b' r d s =
       record {
         answer = s.answer ∙ ap (λ (v : Verdict). comparison_of v (draw_verdict g b) f g) d.answer;

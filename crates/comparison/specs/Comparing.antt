@@ -1,16 +1,15 @@
 -- To be believed: whether two job files cut the same relief, and the first cell where they do not.
-use Rattle.std.specs.Prelude.{◌≡◌, cond, List, ℕ, ◌/◌, ◌%◌, eqb, ltb, get_or}
+use Rattle.std.specs.Prelude.{◌≡◌, cond, List, ℕ, ◌/◌, ◌%◌, eqb, ltb, get_or, Ok, Err}
 use Rattle.geometry.specs.Forms.{kind_byte}
 use Rattle.geometry.specs.Lists.{common}
 use Rattle.geometry.specs.Plate.{area}
-use Rattle.refusal.specs.declared.Verdict.{Verdict}
-use Rattle.refusal.specs.declared.Verdict.TheVariants.{Accepted, Refused}
 use Rattle.refusal.specs.Refusals.{written}
 use Rattle.reading.specs.Reading.{head_in}
 use Rattle.jobs.specs.Calls.{relief, draw_verdict}
 use Rattle.comparison.specs.declared.Difference.{Difference}
 use Rattle.comparison.specs.declared.Comparison.{Comparison}
 use Rattle.comparison.specs.declared.Comparison.TheVariants.{Same, OtherKind, OtherSize, OtherCell, FirstRefused, SecondRefused}
+use Rattle.refusal.specs.Refusals.{Verdict}
 
 -- the cell at a place of two reliefs, with the depth in each
 abbrev pub difference_at : List ℕ → List ℕ → ℕ → Difference
@@ -30,9 +29,9 @@ compared f g =
 
 -- the first file's refusal, then the second's
 abbrev pub comparison_of : Verdict → Verdict → List ℕ → List ℕ → Comparison
-comparison_of (Refused r) v f g = FirstRefused r
-comparison_of Accepted (Refused r) f g = SecondRefused r
-comparison_of Accepted Accepted f g = compared f g
+comparison_of (Err r) v f g = FirstRefused r
+comparison_of (Ok tt) (Err r) f g = SecondRefused r
+comparison_of (Ok tt) (Ok tt) f g = compared f g
 
 -- each file is drawn into a map of its own: its faults, then 4
 abbrev pub comparison : List ℕ → List ℕ → List ℕ → List ℕ → Comparison
@@ -40,8 +39,8 @@ comparison f g a b = comparison_of (draw_verdict f a) (draw_verdict g b) f g
 
 -- the second map is drawn only after the first
 abbrev pub second_written : Verdict → Verdict → List ℕ → List ℕ → List ℕ
-second_written (Refused r) v new old = old
-second_written Accepted v new old = written v new old
+second_written (Err r) v new old = old
+second_written (Ok tt) v new old = written v new old
 
 -- a call that compares: its answer, and what it leaves in both maps
 pub record CompareCall (f g a a' b b' : List ℕ) (r : Comparison) : Type 0 where

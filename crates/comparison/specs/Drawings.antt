@@ -1,10 +1,9 @@
 -- Serves proofs: maps that hold what files draw, compared.
-use Rattle.std.specs.Prelude.{◌≡◌, cond, List, ℕ, ◌/◌, ◌%◌, ◌≤◌, eqb, ltb, length, take, get_or}
+use Rattle.std.specs.Prelude.{◌≡◌, cond, List, ℕ, ◌/◌, ◌%◌, ◌≤◌, eqb, ltb, length, take, get_or, Ok}
 use Rattle.geometry.specs.declared.Head.{Head}
 use Rattle.geometry.specs.Forms.{kind_byte}
 use Rattle.geometry.specs.Lists.{common}
 use Rattle.geometry.specs.Plate.{area}
-use Rattle.refusal.specs.declared.Verdict.TheVariants.{Accepted}
 use Rattle.refusal.specs.Refusals.{written}
 use Rattle.reading.specs.Reading.{IsReadable, head_in}
 use Rattle.jobs.specs.Calls.{relief, draw_verdict}
@@ -37,5 +36,5 @@ pub record Holds (f m : List ℕ) : Type 0 where
 
 -- a second file, drawn and compared with the first
 pub record SecondCompared (f g b b' : List ℕ) (r : Comparison) : Type 0 where
-  pub answer : r ≡ comparison_of Accepted (draw_verdict g b) f g
+  pub answer : r ≡ comparison_of (Ok tt) (draw_verdict g b) f g
   pub bytes : b' ≡ written (draw_verdict g b) (relief g) b

@@ -75,8 +75,8 @@ fn compare_second(first: &[u8], second: &[u8], a: &[u8], b: &mut [u8]) -> Compar
 {
     let verdict = jobs::draw(second, b);
     match verdict {
-        Verdict::Refused(r) => Comparison::SecondRefused(r),
-        Verdict::Accepted => compare_plates(
+        Err(r) => Comparison::SecondRefused(r),
+        Ok(()) => compare_plates(
             reading::head_in(first),
             reading::head_in(second),
             a,
@@ -91,7 +91,7 @@ pub fn compare(first: &[u8], second: &[u8], a: &mut [u8], b: &mut [u8]) -> Compa
 {
     let verdict = jobs::draw(first, a);
     match verdict {
-        Verdict::Refused(r) => Comparison::FirstRefused(r),
-        Verdict::Accepted => compare_second(first, second, a, b),
+        Err(r) => Comparison::FirstRefused(r),
+        Ok(()) => compare_second(first, second, a, b),
     }
 }

@@ -1,4 +1,5 @@
 -- Laws of the plunges of a file that can be drawn: the room of a ball on its plate, and that a field that was read is the file's.
+use Rattle.std.specs.Prelude.{Option, Some, None}
 use mathlib.Core.Path.{◌≡◌, refl, sym, ap, ◌∙◌, subst}
 use mathlib.Core.Bool.{Bool, true, false, cond}
 use mathlib.Core.List.{List}
@@ -16,8 +17,6 @@ use Rattle.geometry.specs.Sizes.{size_of}
 use Rattle.refusal.specs.Sides.{Sides}
 use Rattle.fields.specs.Fields.{plunge_bytes, place}
 use Rattle.fields.proofs.Encoding.{place-next, place-le}
-use Rattle.reading.specs.declared.MaybePlunge.{MaybePlunge}
-use Rattle.reading.specs.declared.MaybePlunge.TheVariants.{OfPlunge, NoPlunge}
 use Rattle.reading.specs.Reading.{head_in, nth_plunge}
 use Rattle.reading.specs.Steps.{plunge_if}
 use Rattle.reading.proofs.Answers.{is-plunge, nth-field}
@@ -58,24 +57,24 @@ module _ (p : Head) (n : ℕ) (f : List ℕ) (sides : Sides p) (d : Drawable p n
   told-reach r e = omega (arith, reach-small)
 
   -- the field that was read is the file's
-  module _ (m : MaybePlunge) (s : Size) (at : ℕ) (e : m ≡ plunge_if s f at) (z : s ≡ size_of p) (a : at ≡ place p i) where
-    whole : m ≡ OfPlunge (nth_plunge f i)
+  module _ (m : (Option Plunge)) (s : Size) (at : ℕ) (e : m ≡ plunge_if s f at) (z : s ≡ size_of p) (a : at ≡ place p i) where
+    whole : m ≡ Some (nth_plunge f i)
     whole = e ∙ nth-field f i p s at d.head z a ∙ is-plunge (size_of (head_in f)) f (place (head_in f) i) reach-small
 
     -- its plunge is the file's
-    pub told : (q : Plunge) → m ≡ OfPlunge q → q ≡ nth_plunge f i
-    told q g = ap (λ (m : MaybePlunge). or_else m q) (sym g ∙ whole)
+    pub told : (q : Plunge) → m ≡ Some q → q ≡ nth_plunge f i
+    told q g = ap (λ (m : (Option Plunge)). or_else m q) (sym g ∙ whole)
       where
-        or_else : MaybePlunge → Plunge → Plunge
-        or_else (OfPlunge o) q = o
-        or_else NoPlunge q = q
+        or_else : Option Plunge → Plunge → Plunge
+        or_else (Some o) q = o
+        or_else None q = q
 
-    pub told_none : m ≡ NoPlunge → ⊥
+    pub told_none : m ≡ None → ⊥
     told_none g = let z : ◌≡◌ {A = ℕ} 0 1 = ap number (sym g ∙ whole) in omega arith
       where
-        number : MaybePlunge → ℕ
-        number (OfPlunge o) = 1
-        number NoPlunge = 0
+        number : Option Plunge → ℕ
+        number (Some o) = 1
+        number None = 0
 
   -- its field lies in the file
   pub field_room : place p i + plunge_bytes (size_of p) ≤ length f

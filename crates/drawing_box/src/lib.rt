@@ -10,7 +10,6 @@ ghost use Rattle.drawing_box.specs.Boxed.{Drawable, widened_by, Extended, Holdin
 
 use bounding_box::Bounds;
 use geometry::{Head, Plunge, Reach};
-use reading::MaybePlunge;
 
 // A list is gone through for its box if it has at most one plunge for so many cells of the plate and each reach above 0: that takes less time
 // than the dilations, one for each of these reaches, which a box makes shorter.
@@ -43,8 +42,8 @@ pub fn plunge_at(head: Head, file: &[u8], count: usize, i: usize) -> Plunge
 {
     let maybe = reading::plunge_at(head.size(), file, fields::place(head, i));
     match maybe {
-        MaybePlunge::OfPlunge(q) => q,
-        MaybePlunge::NoPlunge => Plunge {
+        Some(q) => q,
+        None => Plunge {
             column: 0,
             row: 0,
             reach: Reach(0),

@@ -1,4 +1,5 @@
 -- What a call leaves, refused and accepted; the shortest buffer stands for all four; the volume's sum.
+use Rattle.std.specs.Prelude.{Ok, Err}
 use mathlib.Core.Path.{◌≡◌, refl, sym, ap, ◌∙◌, subst}
 use mathlib.Core.Bool.{Bool, true, false}
 use mathlib.Core.List.{List, [], ◌∷◌, ◌++◌}
@@ -17,18 +18,17 @@ use Rattle.theory.proofs.Residues.{volume-take}
 use Rattle.buffers.specs.Fill.{PlateOnly}
 use Rattle.buffers.proofs.Fill.{mapped-bytes, surplus-drop}
 use Rattle.refusal.specs.declared.Refusal.{Refusal}
-use Rattle.refusal.specs.declared.Verdict.{Verdict}
-use Rattle.refusal.specs.declared.Verdict.TheVariants.{Accepted, Refused}
 use Rattle.refusal.specs.Refusals.{first_met, map_trials, head_of, written, free, Worked, largest_side}
 use Rattle.refusal.proofs.Refusals.{same-verdict, shortest-two, map-sound, Sound, answered-refused}
 use Rattle.erosion_series.specs.Pairs.{MapBuffers, MapFilled}
 use Rattle.erosion_maps.specs.Maps.{largest_area, asked_map, four_verdict}
 use Rattle.erosion_maps.specs.declared.Asked.{Asked}
 use Rattle.erosion_maps.specs.Calls.{Left}
+use Rattle.refusal.specs.Refusals.{Verdict}
 
 -- ---- the answer over four buffers
 
-free-not : (v : Verdict) → v ≡ Accepted → free v ≡ false → ⊥
+free-not : (v : Verdict) → v ≡ Ok tt → free v ≡ false → ⊥
 free-not v e g = true-not-false (sym (ap free e) ∙ g)
   where
     true-not-false : true ≡ false → ⊥
@@ -38,7 +38,7 @@ free-not v e g = true-not-false (sym (ap free e) ∙ g)
 worked-none : (v : Verdict) (n : ℕ) (a : List ℕ) → Worked v n a a
 worked-none v n a = record { same = refl; surplus = refl; kept = λ h. refl }
 
-worked-plate : (v : Verdict) (p : Head) (a a' : List ℕ) → v ≡ Accepted → PlateOnly p a a' → Worked v (area p) a a'
+worked-plate : (v : Verdict) (p : Head) (a a' : List ℕ) → v ≡ Ok tt → PlateOnly p a a' → Worked v (area p) a a'
 worked-plate v p a a' e x =
     record { same = x.same; surplus = surplus-drop p (λ c. 0) a a' x.same x.surplus; kept = λ g. absurd (free-not v e g) }
 
@@ -57,11 +57,11 @@ module _ (k w h : ℕ) (wrong : Bool) (m out a b : List ℕ) where
       ∙ shortest-two (h * w) (min (min (length m) (length out)) (length a)) (length b) []))
 
   -- on a refusal everything is as it was
-  pub left-refused : (q : Refusal) (new : List ℕ) → said ≡ Refused q → Left said (h * w) new out out a a b b (Refused q)
+  pub left-refused : (q : Refusal) (new : List ℕ) → said ≡ Err q → Left said (h * w) new out out a a b b (Err q)
   left-refused q new e =
       record { answered = answered-refused said q new out e; first = worked-none said (h * w) a; second = worked-none said (h * w) b }
 
-  module _ (e : said ≡ Accepted) where
+  module _ (e : said ≡ Ok tt) where
     sound : Sound w h wrong (min (min (min (length m) (length out)) (length a)) (length b))
     sound = map-sound k w h wrong _ (by-shortest (min (min (min (length m) (length out)) (length a)) (length b)) refl ∙ e)
 
@@ -86,7 +86,7 @@ module _ (k w h : ℕ) (wrong : Bool) (m out a b : List ℕ) where
 
     -- on acceptance the map, then what stood there before
     pub left-filled : (f : Head → Cell → ℕ) (p : Head) (out' a' b' : List ℕ) → p ≡ head_of k w h → MapFilled p (f p) out out' a a' b b'
-        → Left said (h * w) (tabulated (head_of k w h) (f (head_of k w h))) out out' a a' b b' Accepted
+        → Left said (h * w) (tabulated (head_of k w h) (f (head_of k w h))) out out' a a' b b' (Ok tt)
     left-filled f p out' a' b' g n =
         let q = head_of k w h in
         let l : MapFilled q (f q) out out' a a' b b' = subst (λ (s : Head). MapFilled s (f s) out out' a a' b b') g n in

@@ -1,15 +1,13 @@
 -- To be believed: maps of all levels at once, as calls: erosion (rung), residue and score maps, and the volume (document 01, "Scores and
 -- volume" and "Refusals in their order").
-use Rattle.std.specs.Prelude.{false, not, List, [], ◌∷◌, ℕ, ◌*◌, length}
+use Rattle.std.specs.Prelude.{false, not, List, [], ◌∷◌, ℕ, ◌*◌, length, Ok, Err, Result}
 use Rattle.geometry.specs.Plate.{tabulated}
 use Rattle.theory.specs.Erosion.{erosion, residue, volume}
 use Rattle.residue_scores.specs.declared.Score.{Score}
-use Rattle.refusal.specs.declared.Verdict.{Verdict}
-use Rattle.refusal.specs.declared.Verdict.TheVariants.{Accepted, Refused}
 use Rattle.refusal.specs.Refusals.{first_met, map_trials, side_trials, head_of, is_erosion_number, largest_erosion, Answered, Worked}
 use Rattle.residue_scores.specs.Scores.{score_of}
-use Rattle.erosion_maps.specs.declared.VolumeAnswer.{VolumeAnswer}
-use Rattle.erosion_maps.specs.declared.VolumeAnswer.TheVariants.{Volume, NoVolume}
+use Rattle.refusal.specs.Refusals.{Verdict}
+use Rattle.refusal.specs.declared.Refusal.{Refusal}
 
 -- the buffers of a call: its relief, its output and two work buffers
 abbrev lengths : List ℕ → List ℕ → List ℕ → List ℕ → List ℕ
@@ -41,9 +39,9 @@ ScoreMap s m k w h out out' a a' b b' =
     Left (score_verdict m k w h out a b) (h * w) (tabulated (head_of k w h) (score_of s (head_of k w h) largest_erosion m)) out out' a a' b b'
 
 -- the volume takes no kind: head_of's serves, since no kind changes a depth
-abbrev pub volume_answer : Verdict → ℕ → VolumeAnswer
-volume_answer Accepted v = Volume v
-volume_answer (Refused r) v = NoVolume r
+abbrev pub volume_answer : Verdict → ℕ → Result ℕ Refusal
+volume_answer (Ok tt) v = Ok v
+volume_answer (Err r) v = Err r
 
-abbrev pub volume_of : List ℕ → ℕ → ℕ → VolumeAnswer
+abbrev pub volume_of : List ℕ → ℕ → ℕ → Result ℕ Refusal
 volume_of m w h = volume_answer (first_met (side_trials w h false (length m ∷ []))) (volume (head_of 4 w h) m)

@@ -4,12 +4,12 @@ use Rattle.geometry.specs.declared.Head.{Head}
 use Rattle.geometry.specs.Plane.{Cell}
 use Rattle.geometry.specs.Plate.{tabulated}
 use Rattle.theory.specs.Erosion.{erosion, residue}
-use Rattle.refusal.specs.declared.Verdict.{Verdict}
 use Rattle.refusal.specs.Refusals.{first_met, map_trials, head_of, is_erosion_number, largest_erosion, largest_side}
 use Rattle.residue_scores.specs.Scores.{score_of}
 use Rattle.erosion_maps.specs.declared.Asked.{Asked}
 use Rattle.erosion_maps.specs.declared.Asked.TheVariants as v
 use Rattle.erosion_maps.specs.Calls.{Left}
+use Rattle.refusal.specs.Refusals.{Verdict}
 
 -- the cells of the largest plate
 abbrev pub largest_area : ℕ

@@ -11,13 +11,6 @@ use geometry::Head;
 use refusal::{Refusal, Verdict};
 use residue_scores::Score;
 
-// The volume, or the first refusal met.
-#[derive(Clone, Copy)]
-pub enum VolumeAnswer {
-    Volume(u32),
-    NoVolume(Refusal),
-}
-
 // The shortest of a call's four buffers.
 fn shortest(relief: usize, out: usize, a: usize, b: usize) -> usize
     ensures { result ≡ min (min (min relief out) a) b }
@@ -79,21 +72,16 @@ fn answer(
 {
     let wrong = is_wrong(asked);
     let room = shortest(relief.len(), out.len(), a.len(), b.len());
-    let verdict = refusal::check_map(kind, width, height, wrong, room);
-    match verdict {
-        Verdict::Refused(r) => Verdict::Refused(r),
-        Verdict::Accepted => {
-            fill(
-                asked,
-                refusal::head_of(kind, width, height),
-                relief,
-                out,
-                a,
-                b,
-            );
-            Verdict::Accepted
-        }
-    }
+    refusal::check_map(kind, width, height, wrong, room)?;
+    fill(
+        asked,
+        refusal::head_of(kind, width, height),
+        relief,
+        out,
+        a,
+        b,
+    );
+    Ok(())
 }
 
 // Erosion `number` of a relief (rung), 1 to 120: at each cell the lowest depth within that distance. Refusals 1, 2, 3 and 4.
@@ -186,15 +174,12 @@ fn depth_sum(relief: &[u8], count: usize) -> u32
 }
 
 // The sum of all depths of a plate. Refusals 2 and 4.
-pub fn volume(relief: &[u8], width: u16, height: u16) -> VolumeAnswer
+pub fn volume(relief: &[u8], width: u16, height: u16) -> Result<u32, Refusal>
     ensures { result ≡ volume_of relief.now width height }
 {
-    let verdict = refusal::check_sides(width, height, false, relief.len());
-    match verdict {
-        Verdict::Refused(r) => VolumeAnswer::NoVolume(r),
-        Verdict::Accepted => VolumeAnswer::Volume(depth_sum(
-            relief,
-            (height as usize) * (width as usize),
-        )),
-    }
+    refusal::check_sides(width, height, false, relief.len())?;
+    Ok(depth_sum(
+        relief,
+        (height as usize) * (width as usize),
+    ))
 }

@@ -14,13 +14,6 @@ pub enum Kind {
     Square,
 }
 
-// The kind that a byte names, if it names one.
-#[derive(Clone, Copy)]
-pub enum MaybeKind {
-    OfKind(Kind),
-    NoKind,
-}
-
 // The size of a plate: small if both sides are at most 240, and then its numbers are bytes in a file; else two bytes each.
 #[derive(Clone, Copy)]
 pub enum Size {
@@ -44,13 +37,6 @@ pub struct Clearance(pub u16);
 #[derive(Clone, Copy)]
 pub struct Reach(pub u16);
 
-// The reach that a number stands for, if it stands for one.
-#[derive(Clone, Copy)]
-pub enum MaybeReach {
-    OfReach(Reach),
-    NoReach,
-}
-
 // One stroke of the press: a ball of a reach about a centre, sunk to a depth.
 #[derive(Clone, Copy)]
 pub struct Plunge {
@@ -65,15 +51,15 @@ pub const SMALL_SIDE: u16 = 240;
 
 impl Head {
     // The size of the plate.
+    #[tactic(auto, unfolding(crate::specs::Sizes::size_of))]
     pub fn size(self) -> Size
         ensures { result ≡ size_of self }
     {
-        if self.width <= SMALL_SIDE {
-            if self.height <= SMALL_SIDE {
-                return Size::Small;
-            }
+        if self.width <= SMALL_SIDE && self.height <= SMALL_SIDE {
+            Size::Small
+        } else {
+            Size::Large
         }
-        Size::Large
     }
 }
 
@@ -82,28 +68,18 @@ impl Head {
 fn gap_of(a: u16, b: u16) -> u32
     ensures { result ≡ gap (pos a) (pos b) }
 {
-    if a < b {
-        (b - a) as u32
-    } else {
-        (a - b) as u32
-    }
-}
-
-fn larger(a: u32, b: u32) -> u32
-    ensures { result ≡ max a b }
-{
-    if a < b { b } else { a }
+    a.abs_diff(b) as u32
 }
 
 impl Kind {
     // The kind of a byte: 4 or 8.
-    pub fn of_byte(byte: u8) -> MaybeKind
+    pub fn of_byte(byte: u8) -> Option<Kind>
         ensures { result ≡ kind_of byte }
     {
         match byte {
-            4 => MaybeKind::OfKind(Kind::Diamond),
-            8 => MaybeKind::OfKind(Kind::Square),
-            _ => MaybeKind::NoKind,
+            4 => Some(Kind::Diamond),
+            8 => Some(Kind::Square),
+            _ => None,
         }
     }
 
@@ -125,7 +101,7 @@ impl Kind {
         let down = gap_of(row, row2);
         match self {
             Kind::Diamond => across + down,
-            Kind::Square => larger(across, down),
+            Kind::Square => across.max(down),
         }
     }
 }
@@ -136,25 +112,21 @@ impl Reach {
     pub const MAX: Reach = Reach(119);
 
     // The reach that a number of a file stands for; above the largest it stands for none.
-    pub fn read(number: u16) -> MaybeReach
+    pub fn read(number: u16) -> Option<Reach>
         ensures { result ≡ reach_of number }
     {
         if number <= Reach::MAX.0 {
-            MaybeReach::OfReach(Reach(number))
+            Some(Reach(number))
         } else {
-            MaybeReach::NoReach
+            None
         }
     }
 
     // The reach of the largest ball about a cell with this clearance.
-    pub fn of_clearance(clearance: Clearance) -> MaybeReach
+    pub fn of_clearance(clearance: Clearance) -> Option<Reach>
         ensures { result ≡ reach_of_clearance clearance }
     {
-        let distance = clearance.0;
-        if distance == 0 {
-            return MaybeReach::NoReach;
-        }
-        Reach::read(distance - 1)
+        Reach::read(clearance.0.checked_sub(1)?)
     }
 }
 
@@ -173,11 +145,7 @@ impl Plunge {
         ensures { result ≡ inside kind self other }
     {
         let apart = kind.distance(self.column, self.row, other.column, other.row);
-        if apart + (self.reach.0 as u32) <= (other.reach.0 as u32) {
-            self.depth <= other.depth
-        } else {
-            false
-        }
+        apart + (self.reach.0 as u32) <= (other.reach.0 as u32) && self.depth <= other.depth
     }
 
     // Whether its ball lies wholly on the plate.
@@ -185,18 +153,9 @@ impl Plunge {
         ensures { result ≡ fits_plate head self }
     {
         let reach = self.reach.0;
-        if reach <= self.column {
-            if reach <= self.row {
-                if (self.column as u32) + (reach as u32) < (head.width as u32) {
-                    (self.row as u32) + (reach as u32) < (head.height as u32)
-                } else {
-                    false
-                }
-            } else {
-                false
-            }
-        } else {
-            false
-        }
+        reach <= self.column
+            && reach <= self.row
+            && (self.column as u32) + (reach as u32) < (head.width as u32)
+            && (self.row as u32) + (reach as u32) < (head.height as u32)
     }
 }

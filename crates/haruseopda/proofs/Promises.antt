@@ -1,4 +1,5 @@
 -- What each call promises of narrowed arguments it promises of those that it was given: `narrowed`, call by call.
+use Rattle.std.specs.Prelude.{Result}
 use mathlib.Core.Path.{◌≡◌, refl, ap}
 use mathlib.Core.Logic.{inl}
 use mathlib.Core.Bool.{false, not}
@@ -12,23 +13,23 @@ use Rattle.geometry.specs.Plate.{area, tabulated}
 use Rattle.theory.specs.Levels.{clearance, axis, reconstructed}
 use Rattle.theory.specs.Erosion.{erosion, residue, volume}
 use Rattle.theory.specs.Climbed.{erosion_count}
-use Rattle.refusal.specs.declared.Verdict.{Verdict}
 use Rattle.refusal.specs.Refusals.{trial, first_met, short, is_erosion_number, largest_erosion, is_level, head_of, free, Answered, Worked}
 use Rattle.refusal.proofs.Refusals.{refused}
-use Rattle.clearance_cell.specs.declared.CellAnswer.{CellAnswer}
 use Rattle.clearance_cell.specs.Calls.{clearance_answer, cell_answer}
 use Rattle.clearance_maps.specs.Calls.{level_verdict, ClearanceMap, AxisMap, Reconstruction}
-use Rattle.erosion_maps.specs.declared.VolumeAnswer.{VolumeAnswer}
 use Rattle.erosion_maps.specs.Calls.{erosion_verdict, Left, ErosionMap, ResidueMap, ScoreMap, volume_of, volume_answer}
 use Rattle.residue_scores.specs.declared.Score.{Score}
 use Rattle.residue_scores.specs.Scores.{score_of}
 use Rattle.fields.specs.Fields.{file_length}
-use Rattle.listing.specs.declared.ListAnswer.{ListAnswer}
 use Rattle.listing.specs.Answers.{room_trials}
 use Rattle.jobs.specs.Calls.{ListAnswered, ListCall, listed}
 use Rattle.c_arguments.specs.declared.Plate.{Plate}
 use Rattle.c_arguments.specs.Narrow.{narrow_byte, narrow_word, narrow_plate}
 use Rattle.c_arguments.proofs.Narrow.{Place, narrow_place, wrong_place, level-kept, number-kept, place_kept, narrowed}
+use Rattle.refusal.specs.Refusals.{Verdict}
+use Rattle.geometry.specs.declared.Clearance.{Clearance}
+use Rattle.refusal.specs.declared.Refusal.{Refusal}
+use Rattle.listing.specs.declared.Extent.{Extent}
 
 -- ---- promises that after a refusal do not speak of what would have been given
 
@@ -48,7 +49,7 @@ left-silent out out' a a' b b' r n e x y q =
       second = worked-silent b b' n e x.0 y.0 q.second;
     }
 
-listing-silent : (out out' a a' b b' : List ℕ) (r : ListAnswer) (n : ℕ) → free (refused n) ≡ false → (x y : Head × List Plunge × ℕ)
+listing-silent : (out out' a a' b b' : List ℕ) (r : (Result Extent Refusal)) (n : ℕ) → free (refused n) ≡ false → (x y : Head × List Plunge × ℕ)
     → ListAnswered (refused n) x.0 x.1 x.2 out out' a a' b b' r → ListAnswered (refused n) y.0 y.1 y.2 out out' a a' b b' r
 listing-silent out out' a a' b b' r n e x y q =
     record {
@@ -69,7 +70,7 @@ abbrev nothing : ℕ → ℕ
 nothing n = n
 
 module _ (k w h : ℕ) (p : Plate) (e : p ≡ narrow_plate k w h) where
-  pub cell-promise : (m : List ℕ) (t x y t' x' y' : ℕ) (r : CellAnswer) → t' ≡ narrow_byte t → x' ≡ narrow_word x → y' ≡ narrow_word y
+  pub cell-promise : (m : List ℕ) (t x y t' x' y' : ℕ) (r : (Result Clearance Refusal)) → t' ≡ narrow_byte t → x' ≡ narrow_word x → y' ≡ narrow_word y
       → r ≡ clearance_answer m p.kind p.width p.height t' x' y' → r ≡ clearance_answer m k w h t x y
   cell-promise m t x y t' x' y' r f g i =
       let c : Place = record { level = t; column = x; row = y } in
@@ -129,7 +130,7 @@ module _ (k w h : ℕ) (p : Plate) (e : p ≡ narrow_plate k w h) where
         (λ k w h n. (h * w, tabulated (head_of k w h) (score_of s (head_of k w h) largest_erosion m)))
         (λ v x. Left v x.0 x.1 out out' a a' b b' r) (left-silent out out' a a' b b' r) k w h 0 (λ l o. inl refl) p e 0 refl
 
-    pub list-promise : (r : ListAnswer) → ListCall m p.kind p.width p.height out out' a a' b b' r → ListCall m k w h out out' a a' b b' r
+    pub list-promise : (r : (Result Extent Refusal)) → ListCall m p.kind p.width p.height out out' a a' b b' r → ListCall m k w h out out' a a' b b' r
     list-promise r =
         narrowed {A = ℕ} {X = Head × List Plunge × ℕ} nothing (λ w h n. false)
         (λ k w h n. first_met (trial (short w h (length m ∷ length a ∷ length b ∷ [])) 4 0
@@ -138,7 +139,7 @@ module _ (k w h : ℕ) (p : Plate) (e : p ≡ narrow_plate k w h) where
         (listing-silent out out' a a' b b' r) k w h 0 (λ l o. inl refl) p e 0 refl
 
 -- the volume takes no kind: 4 is one
-pub volume-promise : (m : List ℕ) (w h w' h' : ℕ) (r : VolumeAnswer) → w' ≡ narrow_word w → h' ≡ narrow_word h
+pub volume-promise : (m : List ℕ) (w h w' h' : ℕ) (r : (Result ℕ Refusal)) → w' ≡ narrow_word w → h' ≡ narrow_word h
     → r ≡ volume_of m w' h' → r ≡ volume_of m w h
 volume-promise m w h w' h' r f g =
     let p : Plate = record { kind = 4; width = w'; height = h' } in

@@ -1,4 +1,5 @@
 -- When two files are alike.
+use Rattle.std.specs.Prelude.{Ok, Err}
 use mathlib.Core.Path.{◌≡◌, refl, sym, ap, ap₂, ◌∙◌}
 use mathlib.Core.Bool.{Bool, true, false, cond}
 use mathlib.Core.List.{List, [], ◌∷◌}
@@ -8,11 +9,10 @@ use borrow.Author.Tests.{eq-eqb, eqb-true}
 use lib.Dec.{eqb}
 use lib.ListN.{length}
 use Rattle.refusal.specs.declared.Refusal.{Refusal}
-use Rattle.refusal.specs.declared.Verdict.TheVariants.{Accepted, Refused}
 use Rattle.geometry.specs.Lists.{common}
 use Rattle.job_check.specs.Checking.{alike}
 
-pub refused-not : {A : Type 0} (r : Refusal) → Refused r ≡ Accepted → A
+pub refused-not : {A : Type 0} (r : Refusal) → Err r ≡ Ok tt → A
 refused-not r e = let z : ◌≡◌ {A = ℕ} 0 1 = cc in absurd (omega arith)
 
 -- a list that agrees with itself, and lists that agree to the end of both

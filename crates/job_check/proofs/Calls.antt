@@ -1,4 +1,5 @@
 -- What the tidy check leaves, refused and done: its verdict by the tests that were made, its buffers by what was done.
+use Rattle.std.specs.Prelude.{Err}
 use mathlib.Core.Path.{◌≡◌, refl, sym, ap, ◌∙◌, subst}
 use mathlib.Core.Bool.{Bool, true, false, not}
 use mathlib.Core.List.{List, [], ◌∷◌}
@@ -9,8 +10,6 @@ use Rattle.geometry.specs.declared.Head.{Head}
 use Rattle.geometry.specs.Plate.{area}
 use Rattle.theory.specs.Listing.{drawn}
 use Rattle.refusal.specs.declared.Refusal.{Refusal}
-use Rattle.refusal.specs.declared.Verdict.{Verdict}
-use Rattle.refusal.specs.declared.Verdict.TheVariants.{Refused}
 use Rattle.refusal.specs.Refusals.{trial, first_met, free}
 use Rattle.buffers.specs.Fill.{Mapped, PlateOnly}
 use Rattle.reading.specs.Reading.{file_trials, head_in, plunges_up_to}
@@ -22,8 +21,9 @@ use Rattle.reading.specs.Steps.{JobOf}
 use Rattle.jobs.proofs.Calls.{short-three, plate-fault, no-fault, worked-none, worked-free, kept-mapped, drawn-lists, short-of, works-long}
 use Rattle.job_check.specs.Checking.{alike, check_verdict, CheckCall}
 use Rattle.job_check.specs.Comparing.{Comparable, Compared}
+use Rattle.refusal.specs.Refusals.{Verdict}
 
-check-refused : (f : List ℕ) (q : Refusal) (a b c : List ℕ) → check_verdict f a b c ≡ Refused q → CheckCall f a a b b c c (Refused q)
+check-refused : (f : List ℕ) (q : Refusal) (a b c : List ℕ) → check_verdict f a b c ≡ Err q → CheckCall f a a b b c c (Err q)
 check-refused f q a b c e =
     record {
       answer = sym e;
@@ -32,7 +32,7 @@ check-refused f q a b c e =
       third = worked-none (check_verdict f a b c) (area (head_in f)) c;
     }
 
-pub check-fault : (f : List ℕ) (q : Refusal) (a b c : List ℕ) → first_met (file_trials f) ≡ Refused q → CheckCall f a a b b c c (Refused q)
+pub check-fault : (f : List ℕ) (q : Refusal) (a b c : List ℕ) → first_met (file_trials f) ≡ Err q → CheckCall f a a b b c c (Err q)
 check-fault f q a b c e = check-refused f q a b c (file-fault f _ q e)
 
 -- of a file that was read, with n the shortest of the work buffers
@@ -40,10 +40,10 @@ module _ (f : List ℕ) (j : Job) (w : JobOf f j) (a b c : List ℕ) (n : ℕ) (
   abbrev works : List ℕ
   works = length a ∷ length b ∷ length c ∷ []
 
-  pub check-short : (q : Refusal) → q ≡ record { number = 4; place = 0 } → n < area j.head → CheckCall f a a b b c c (Refused q)
+  pub check-short : (q : Refusal) → q ≡ record { number = 4; place = 0 } → n < area j.head → CheckCall f a a b b c c (Err q)
   check-short q g l = check-refused f q a b c
       (plate-fault f works _ w.readable (short-of f j w works (short-three j.head.width j.head.height (length a) (length b) (length c) n e l))
-      ∙ sym (ap Refused g))
+      ∙ sym (ap Err g))
 
   pub check-asks : area j.head ≤ n → ((i : ℕ) → get_or f i 0 < 256) → (c' : List ℕ)
       → Mapped j.head (drawn j.head.kind (plunges_up_to j.plunges f)) c c' → Comparable j.head j.plunges f c' a b

@@ -1,4 +1,5 @@
 -- The tidy check: where two files of one head first differ, found among their plunges alone.
+use Rattle.std.specs.Prelude.{Ok, Err}
 use mathlib.Core.Path.{◌≡◌, refl, sym, ap, ap₂, ◌∙◌, subst}
 use mathlib.Core.Logic.{◌⊎◌, inl, inr}
 use mathlib.Core.Bool.{Bool, true, false}
@@ -14,7 +15,6 @@ use Rattle.geometry.specs.declared.Size.{Size}
 use Rattle.geometry.specs.declared.Size.TheVariants.{Small, Large}
 use Rattle.geometry.specs.Sizes.{size_of}
 use Rattle.theory.specs.Listing.{listing}
-use Rattle.refusal.specs.declared.Verdict.TheVariants.{Accepted, Refused}
 use Rattle.refusal.specs.Refusals.{largest_erosion}
 use Rattle.fields.specs.Fields.{four, head_field, plunge_field, plunge_fields, end_tag, encoded, place}
 use Rattle.fields.proofs.Encoding.{field-length, head-length, bytes-none, fields-place, place_same, plunge-injective, encoded-parts, encoded-injective}
@@ -259,20 +259,20 @@ module _ (p : Head) (n : ℕ) (f m a b : List ℕ) (q : Comparable p n f m a b) 
         (t.like ∙ ap₂ (λ (h : Head) (qs : List Plunge). eqb (common (drop (place h 0) f) (plunge_fields (size_of h) qs)) (length (plunge_fields (size_of h) qs)))
         q.head q.lists)
 
-    pub compared-like : r.like ≡ true → r.at ≡ place p n → Compared f Accepted
+    pub compared-like : r.like ≡ true → r.at ≡ place p n → Compared f (Ok tt)
     compared-like l e = go finds
       where
-        go : (r.like ≡ true × (r.at ≡ place (head_in f) (total f)) × Tidy f) ⊎ Untidy f r.at r.like → Compared f Accepted
+        go : (r.like ≡ true × (r.at ≡ place (head_in f) (total f)) × Tidy f) ⊎ Untidy f r.at r.like → Compared f (Ok tt)
         go (inl x) = rw x.2.is
         go (inr x) = absurd (x.told l (e ∙ ap₂ place q.head q.count))
 
-    pub compared-unlike : (r.like ≡ true → r.at ≡ place p n → ⊥) → Compared f (Refused (record { number = 12; place = r.at }))
+    pub compared-unlike : (r.like ≡ true → r.at ≡ place p n → ⊥) → Compared f (Err (record { number = 12; place = r.at }))
     compared-unlike h = go finds
       where
         go : (r.like ≡ true × (r.at ≡ place (head_in f) (total f)) × Tidy f) ⊎ Untidy f r.at r.like
-            → Compared f (Refused (record { number = 12; place = r.at }))
+            → Compared f (Err (record { number = 12; place = r.at }))
         go (inl x) = absurd (h x.0 (x.1 ∙ sym (ap₂ place q.head q.count)))
-        go (inr x) = rw x.unlike (ap (λ (n : ℕ). Refused (record { number = 12; place = n })) (sym x.first))
+        go (inr x) = rw x.unlike (ap (λ (n : ℕ). Err (record { number = 12; place = n })) (sym x.first))
 
 pub not-both : true ≡ false → ⊥
 not-both e = let z : ◌≡◌ {A = ℕ} 0 1 = cc in omega arith

@@ -2,10 +2,10 @@
 use Rattle.std.specs.Prelude.{◌≡◌, Bool, false, cond, not, List, [], ◌∷◌, ◌++◌, ℕ, eqb, length}
 use Rattle.geometry.specs.Lists.{common}
 use Rattle.geometry.specs.Plate.{area}
-use Rattle.refusal.specs.declared.Verdict.{Verdict}
 use Rattle.refusal.specs.Refusals.{trial, first_met, Worked}
 use Rattle.reading.specs.Reading.{file_trials, head_in}
 use Rattle.jobs.specs.Calls.{tidied, work_trial}
+use Rattle.refusal.specs.Refusals.{Verdict}
 
 -- two files are equal, in length and in every byte
 abbrev pub alike : List ℕ → List ℕ → Bool

@@ -4,11 +4,11 @@ use Rattle.geometry.specs.declared.Head.{Head}
 use Rattle.geometry.specs.Lists.{common}
 use Rattle.geometry.specs.Plate.{area}
 use Rattle.theory.specs.Listing.{listing}
-use Rattle.refusal.specs.declared.Verdict.{Verdict}
 use Rattle.refusal.specs.Refusals.{trial, first_met, largest_erosion}
 use Rattle.reading.specs.Reading.{IsReadable, head_in, total}
 use Rattle.jobs.specs.Calls.{tidied_plunges, tidied}
 use Rattle.job_check.specs.Checking.{alike}
+use Rattle.refusal.specs.Refusals.{Verdict}
 
 -- of a readable file whose relief is drawn: its list can be compared with the file's own
 pub record Comparable (p : Head) (n : ℕ) (f m a b : List ℕ) : Type 0 where

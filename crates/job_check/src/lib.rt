@@ -7,7 +7,6 @@ ghost use Rattle.job_check.specs.Comparing.{Comparable, Compared};
 
 use geometry::Head;
 use listing_pass::Pass;
-use reading::ReadAnswer;
 use refusal::{Refusal, Verdict};
 
 // Compares the list of the relief that a file draws with the file's own plunges; 12 with the first byte unlike.
@@ -27,10 +26,10 @@ fn compare(
     let progress = sent.progress;
     if progress.like {
         if progress.at == fields::place(head, plunges) {
-            return Verdict::Accepted;
+            return Ok(());
         }
     }
-    Verdict::Refused(Refusal {
+    Err(Refusal {
         number: 12,
         place: progress.at,
     })
@@ -40,17 +39,12 @@ fn compare(
 pub fn check(file: &[u8], a: &mut [u8], b: &mut [u8], c: &mut [u8]) -> Verdict
     ensures { CheckCall file.now a.old a.new b.old b.new c.old c.new result }
 {
-    let answer = reading::read(file);
-    match answer {
-        ReadAnswer::Unreadable(r) => Verdict::Refused(r),
-        ReadAnswer::Readable(job) => {
-            let head = job.head;
-            let room = jobs::shortest(a.len(), b.len(), c.len());
-            if room < jobs::cells_of(head) {
-                return Verdict::Refused(jobs::too_short());
-            }
-            drawing::draw_into(head, file, job.plunges, c);
-            compare(head, job.plunges, file, c, a, b)
-        }
+    let job = reading::read(file)?;
+    let head = job.head;
+    let room = jobs::shortest(a.len(), b.len(), c.len());
+    if room < jobs::cells_of(head) {
+        return Err(jobs::too_short());
     }
+    drawing::draw_into(head, file, job.plunges, c);
+    compare(head, job.plunges, file, c, a, b)
 }

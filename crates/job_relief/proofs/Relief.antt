@@ -1,4 +1,5 @@
 -- What the drawn relief gives: its volume, and whether the file is tidy.
+use Rattle.std.specs.Prelude.{Ok, Err}
 use mathlib.Core.Path.{◌≡◌, refl, sym, ap, ◌∙◌}
 use mathlib.Core.Bool.{Bool, true, false, not}
 use mathlib.Core.List.{List, [], ◌∷◌, ◌++◌}
@@ -16,11 +17,8 @@ use Rattle.theory.specs.Listing.{drawn}
 use Rattle.theory.proofs.Plate.{length-tabulated}
 use Rattle.theory.proofs.Residues.{volume-take}
 use Rattle.refusal.specs.declared.Refusal.{Refusal}
-use Rattle.refusal.specs.declared.Verdict.{Verdict}
-use Rattle.refusal.specs.declared.Verdict.TheVariants.{Accepted, Refused}
 use Rattle.refusal.specs.Refusals.{trial, first_met, side_trials, head_of, written, bad_sides, largest_side}
 use Rattle.refusal.proofs.Refusals.{gives_none}
-use Rattle.erosion_maps.specs.declared.VolumeAnswer.TheVariants.{Volume, NoVolume}
 use Rattle.erosion_maps.specs.Calls.{volume_answer, volume_of}
 use Rattle.reading.specs.declared.Job.{Job}
 use Rattle.reading.specs.Reading.{IsReadable, head_in, plunges_in}
@@ -32,6 +30,7 @@ use Rattle.jobs.proofs.Calls.{no-fault, long-one, long-three}
 use Rattle.job_relief.specs.Relief.{volume_in, is_tidy}
 use Rattle.job_relief.specs.Relief.{WorkedOn}
 use Rattle.job_relief.specs.Works.{Workable, WorkKept}
+use Rattle.refusal.specs.Refusals.{Verdict}
 
 -- ---- the volume
 
@@ -42,7 +41,7 @@ sides-right : (w h : ℕ) → 1 ≤ w → w ≤ largest_side → 1 ≤ h → h �
 sides-right w h a b c d = rw (le-leb 1 w a, le-leb w largest_side b, le-leb 1 h c, le-leb h largest_side d)
 
 module _ (f out : List ℕ) (ok : IsReadable f) (long : area (head_in f) ≤ length out) where
-  drawn-accepted : draw_verdict f out ≡ Accepted
+  drawn-accepted : draw_verdict f out ≡ Ok tt
   drawn-accepted = no-fault f (length out ∷ []) [] ok (long-one (head_in f).width (head_in f).height (length out) long)
 
   module _ (out' : List ℕ) (v : Verdict) (d : Drawn f out out' v) where
@@ -73,24 +72,24 @@ module _ (f out : List ℕ) (ok : IsReadable f) (long : area (head_in f) ≤ len
         ∙ ap sum (drawn-take ∙ sym relief-take)
         ∙ sym (volume-take (head_in f) (relief f) (omega (arith, length-relief f)))
 
-    volume-accepted : first_met (side_trials (head_in f).width (head_in f).height false (length out' ∷ [])) ≡ Accepted
+    volume-accepted : first_met (side_trials (head_in f).width (head_in f).height false (length out' ∷ [])) ≡ Ok tt
     volume-accepted =
         let s = (readable-sound f ok).sides in
         sym (gives_none (head_in f).width (head_in f).height false (length out')
         (sides-right (head_in f).width (head_in f).height s.wide s.narrow s.tall s.low) refl (omega (arith, drawn-length, long)))
 
-    volume-is : volume_of out' (head_in f).width (head_in f).height ≡ Volume (volume_in f)
-    volume-is = ap (λ (u : Verdict). volume_answer u (volume (head_of 4 (head_in f).width (head_in f).height) out')) volume-accepted ∙ ap Volume same-volume
+    volume-is : volume_of out' (head_in f).width (head_in f).height ≡ Ok (volume_in f)
+    volume-is = ap (λ (u : Verdict). volume_answer u (volume (head_of 4 (head_in f).width (head_in f).height) out')) volume-accepted ∙ ap Ok same-volume
 
     -- under the head that reading gave
-    volume-of-head : (h : Head) → h ≡ head_in f → volume_of out' h.width h.height ≡ Volume (volume_in f)
+    volume-of-head : (h : Head) → h ≡ head_in f → volume_of out' h.width h.height ≡ Ok (volume_in f)
     volume-of-head h e = ap (λ (p : Head). volume_of out' p.width p.height) e ∙ volume-is
 
-    pub volume-given : (h : Head) (n : ℕ) → h ≡ head_in f → Volume n ≡ volume_of out' h.width h.height → n ≡ volume_in f
-    volume-given h n e g = let z : Volume n ≡ Volume (volume_in f) = g ∙ volume-of-head h e in cc
+    pub volume-given : (h : Head) (n : ℕ) → h ≡ head_in f → Ok n ≡ volume_of out' h.width h.height → n ≡ volume_in f
+    volume-given h n e g = let z : Ok n ≡ Ok (volume_in f) = g ∙ volume-of-head h e in cc
 
-    pub volume-refused : (h : Head) (r : Refusal) → h ≡ head_in f → NoVolume r ≡ volume_of out' h.width h.height → ⊥
-    volume-refused h r e g = let y : NoVolume r ≡ Volume (volume_in f) = g ∙ volume-of-head h e in let z : ◌≡◌ {A = ℕ} 0 1 = cc in omega arith
+    pub volume-refused : (h : Head) (r : Refusal) → h ≡ head_in f → Err r ≡ volume_of out' h.width h.height → ⊥
+    volume-refused h r e g = let y : Err r ≡ Ok (volume_in f) = g ∙ volume-of-head h e in let z : ◌≡◌ {A = ℕ} 0 1 = cc in omega arith
 
 -- ---- the tidy check
 
@@ -99,17 +98,17 @@ module _ (f a b c : List ℕ) (ok : IsReadable f) (x : area (head_in f) ≤ leng
   checked = no-fault f (length a ∷ length b ∷ length c ∷ []) (trial (not (is_tidy f)) 12 (common f (tidied f)) ∷ []) ok
       (long-three (head_in f).width (head_in f).height (length a) (length b) (length c) (min (min (length a) (length b)) (length c)) refl (omega arith))
 
-  pub tidy-accepted : (v : Verdict) → v ≡ check_verdict f a b c → v ≡ Accepted → true ≡ is_tidy f
+  pub tidy-accepted : (v : Verdict) → v ≡ check_verdict f a b c → v ≡ Ok tt → true ≡ is_tidy f
   tidy-accepted v e w = go (is_tidy f) (sym checked ∙ sym e ∙ w)
     where
-      go : (t : Bool) → first_met (trial (not t) 12 (common f (tidied f)) ∷ []) ≡ Accepted → true ≡ t
+      go : (t : Bool) → first_met (trial (not t) 12 (common f (tidied f)) ∷ []) ≡ Ok tt → true ≡ t
       go true g = refl
       go false g = let z : ◌≡◌ {A = ℕ} 0 1 = cc in absurd (omega arith)
 
-  pub tidy-refused : (v : Verdict) (r : Refusal) → v ≡ check_verdict f a b c → v ≡ Refused r → false ≡ is_tidy f
+  pub tidy-refused : (v : Verdict) (r : Refusal) → v ≡ check_verdict f a b c → v ≡ Err r → false ≡ is_tidy f
   tidy-refused v r e w = go (is_tidy f) (sym checked ∙ sym e ∙ w)
     where
-      go : (t : Bool) → first_met (trial (not t) 12 (common f (tidied f)) ∷ []) ≡ Refused r → false ≡ t
+      go : (t : Bool) → first_met (trial (not t) 12 (common f (tidied f)) ∷ []) ≡ Err r → false ≡ t
       go true g = let z : ◌≡◌ {A = ℕ} 0 1 = cc in absurd (omega arith)
       go false g = refl
 

@@ -8,7 +8,6 @@ ghost use Rattle.reading.specs.Steps.{JobOf};
 ghost use Rattle.job_relief.specs.Relief.{volume_in, is_tidy, WorkedOn};
 ghost use Rattle.job_relief.specs.Works.{Workable, WorkKept};
 
-use erosion_maps::VolumeAnswer;
 use reading::Job;
 use refusal::Verdict;
 
@@ -21,8 +20,8 @@ pub fn volume_of(file: &[u8], job: Job, work: &mut [u8]) -> u64
     jobs::draw(file, work);
     let answer = erosion_maps::volume(work, head.width, head.height);
     match answer {
-        VolumeAnswer::Volume(volume) => volume as u64,
-        VolumeAnswer::NoVolume(_) => 0,
+        Ok(volume) => volume as u64,
+        Err(_) => 0,
     }
 }
 
@@ -34,7 +33,7 @@ pub fn is_tidy(file: &[u8], job: Job, a: &mut [u8], b: &mut [u8], c: &mut [u8]) 
 {
     let verdict = job_check::check(file, a, b, c);
     match verdict {
-        Verdict::Accepted => true,
-        Verdict::Refused(_) => false,
+        Ok(()) => true,
+        Err(_) => false,
     }
 }

@@ -1,4 +1,5 @@
 -- What the calls answer with buffers long enough: nothing is refused, and the answer's bytes are the file of the list.
+use Rattle.std.specs.Prelude.{Ok, Result}
 use mathlib.Core.Path.{◌≡◌, sym, ap, ap₂, ◌∙◌}
 use mathlib.Core.List.{List, [], ◌∷◌, ◌++◌}
 use Prim.Native.Nat.{ℕ, ◌≤◌}
@@ -12,8 +13,6 @@ use Rattle.geometry.specs.Plate.{area}
 use Rattle.theory.specs.Listing.{listing}
 use Rattle.theory.proofs.Plunges.{fits_plate-iff}
 use Rattle.theory.proofs.Listing.{listed-fits}
-use Rattle.refusal.specs.declared.Verdict.{Verdict}
-use Rattle.refusal.specs.declared.Verdict.TheVariants.{Accepted}
 use Rattle.refusal.specs.Refusals.{Trial, trial, first_met, short, largest_erosion, written}
 use Rattle.refusal.specs.Sides.{Sides}
 use Rattle.fields.specs.Fields.{encoded, file_length}
@@ -22,27 +21,28 @@ use Rattle.reading.specs.Reading.{IsReadable, file_trials, head_in, plunges_in}
 use Rattle.refusal.proofs.Trials.{and_then, first-append}
 use Rattle.reading.proofs.Readable.{Writable, encoded-plunges}
 use Rattle.listing_plunges.proofs.Plunges.{listing-few}
-use Rattle.listing.specs.declared.ListAnswer.{ListAnswer}
-use Rattle.listing.specs.declared.ListAnswer.TheVariants.{Listed}
 use Rattle.listing.specs.Answers.{list_answer}
 use Rattle.jobs.specs.Calls.{tidied_plunges, work_trial, room_for, tidy_verdict}
 use Rattle.jobs.proofs.Calls.{long-three}
 use Rattle.job_theorems.specs.Canonical.{NoneMet, bytes_of, Lists}
 use Rattle.job_theorems.specs.Climbed.{erosions_of}
+use Rattle.refusal.specs.Refusals.{Verdict}
+use Rattle.listing.specs.declared.Extent.{Extent}
+use Rattle.refusal.specs.declared.Refusal.{Refusal}
 
 -- trials of which none is met leave the word to those behind them
 pub after : (ts us : List Trial) → NoneMet ts → first_met (ts ++ us) ≡ first_met us
 after ts us e = first-append ts us ∙ ap (λ (v : Verdict). and_then v (first_met us)) e
 
 pub tidy-accepts : (f out a b c : List ℕ) → IsReadable f → NoneMet (work_trial f a b c ∷ []) → NoneMet (room_for (head_in f) (tidied_plunges f) out)
-    → tidy_verdict f out a b c ≡ Accepted
+    → tidy_verdict f out a b c ≡ Ok tt
 tidy-accepts f out a b c ok works room =
     after (file_trials f) _ ok ∙ after (work_trial f a b c ∷ []) (room_for (head_in f) (tidied_plunges f) out) works ∙ room
 
 -- an accepted call that answers with a list
-module _ (p : Head) (qs : List Plunge) (out out' : List ℕ) (r : ListAnswer) (v : Verdict) (accepts : v ≡ Accepted)
+module _ (p : Head) (qs : List Plunge) (out out' : List ℕ) (r : (Result Extent Refusal)) (v : Verdict) (accepts : v ≡ Ok tt)
     (n : ℕ) (answer : r ≡ list_answer v p qs n) (bytes : out' ≡ written v (encoded p qs) out) where
-  answered : r ≡ Listed (record { bytes = file_length p (length qs); plunges = length qs; erosions = n })
+  answered : r ≡ Ok (record { bytes = file_length p (length qs); plunges = length qs; erosions = n })
   answered = answer ∙ ap (λ (u : Verdict). list_answer u p qs n) accepts
 
   -- its count is the one that was made
@@ -56,7 +56,7 @@ module _ (p : Head) (qs : List Plunge) (out out' : List ℕ) (r : ListAnswer) (v
       ∙ take_at (encoded p qs) (drop (length (encoded p qs)) out) (file_length p (length qs)) (encoded-length p qs)
 
   pub given-lists : Lists r (take (bytes_of r) out')
-  given-lists = (n, answered ∙ (λ i. Listed (record { bytes = long i; plunges = many i; erosions = n })))
+  given-lists = (n, answered ∙ (λ i. Ok (record { bytes = long i; plunges = many i; erosions = n })))
     where
       long : file_length p (length qs) ≡ length (take (bytes_of r) out')
       long = sym (ap length given-file ∙ encoded-length p qs)
@@ -73,7 +73,7 @@ listing-writable p m sides = record {
 }
 
 -- buffers of just the length needed are long enough
-pub long-works : (p : Head) (n : ℕ) → n ≡ area p → first_met (trial (short p.width p.height (n ∷ n ∷ n ∷ [])) 4 0 ∷ []) ≡ Accepted
+pub long-works : (p : Head) (n : ℕ) → n ≡ area p → first_met (trial (short p.width p.height (n ∷ n ∷ n ∷ [])) 4 0 ∷ []) ≡ Ok tt
 long-works p n e = rw (long-three p.width p.height n n n n (omega arith) (omega arith))
 
 pub exact-room : (p : Head) (qs : List Plunge) → NoneMet (room_for p qs (encoded p qs))

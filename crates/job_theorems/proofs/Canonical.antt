@@ -1,4 +1,5 @@
 -- Demand 3, whole: the canonical-form theorem, about what the tidying call answers and leaves.
+use Rattle.std.specs.Prelude.{Ok}
 use mathlib.Core.Path.{◌≡◌, refl, sym, ap, ap₂, ◌∙◌, subst}
 use mathlib.Core.Logic.{◌⊎◌, inl, inr, ◌↔◌}
 use mathlib.Core.Bool.{Bool, true, false, not}
@@ -22,8 +23,6 @@ use Rattle.theory.proofs.Listing.{listed-iff-maximal, fits-inside}
 use Rattle.theory.proofs.Order.{listing-rising}
 use Rattle.theory.proofs.Drawing.{le-drawn}
 use Rattle.theory.proofs.Canonical.{canonical-iff, canonical-draws, canonical-twice}
-use Rattle.refusal.specs.declared.Verdict.{Verdict}
-use Rattle.refusal.specs.declared.Verdict.TheVariants.{Accepted}
 use Rattle.refusal.specs.Refusals.{trial, first_met, largest_erosion, written, Worked}
 use Rattle.fields.specs.Fields.{encoded}
 use Rattle.fields.proofs.Encoding.{encoded-injective}
@@ -38,12 +37,13 @@ use Rattle.job_theorems.specs.Canonical.{NoneMet, Tidying, file, Checking, SameP
 use Rattle.job_check.proofs.Alike.{refused-not, alike_same, alike-equal}
 use Rattle.jobs.proofs.Calls.{worked-none}
 use Rattle.job_theorems.proofs.Answers.{after, tidy-accepts, given-file, given-lists, listing-writable, long-works, exact-room}
+use Rattle.refusal.specs.Refusals.{Verdict}
 
 -- ---- what the tidying call gave
 
 module _ (f : List ℕ) (s : Tidying f) where
   -- with buffers long enough nothing is refused
-  pub accepts : tidy_verdict f s.out s.a s.b s.c ≡ Accepted
+  pub accepts : tidy_verdict f s.out s.a s.b s.c ≡ Ok tt
   accepts = tidy-accepts f s.out s.a s.b s.c s.readable s.works s.room
 
   -- the bytes of the answer alone are the tidied file
@@ -103,7 +103,7 @@ module _ (f : List ℕ) (ok : IsReadable f) where
           whole = (fits_plate-iff (head_in f) q).0 (subst (λ (o : Plunge). fits_plate (head_in f) o ≡ true) (sym e) (sound.fits j (omega arith)))
 
   -- the check's answer, with work buffers long enough
-  pub check-is : (s : Checking f) → (s.answer ≡ Accepted) ↔ (tidied f ≡ f)
+  pub check-is : (s : Checking f) → (s.answer ≡ Ok tt) ↔ (tidied f ≡ f)
   check-is s = (
     λ e. sym (alike-equal f (tidied f) (back (alike f (tidied f)) (sym verdict ∙ sym s.call.answer ∙ e))),
     λ e. s.call.answer ∙ verdict ∙ ap last (alike_same f (tidied f) (sym e)),
@@ -116,7 +116,7 @@ module _ (f : List ℕ) (ok : IsReadable f) where
       verdict = after-file f _ ok ∙ after (work_trial f s.a s.b s.c ∷ [])
           (trial (not (alike f (tidied f))) 12 (common f (tidied f)) ∷ []) s.works
 
-      back : (b : Bool) → last b ≡ Accepted → b ≡ true
+      back : (b : Bool) → last b ≡ Ok tt → b ≡ true
       back true e = refl
       back false e = refused-not _ e
 

@@ -1,4 +1,5 @@
 -- From the list back to the relief: what a listing wrote, drawn, is the relief again, byte for byte.
+use Rattle.std.specs.Prelude.{Ok}
 use mathlib.Core.Path.{◌≡◌, sym, ap, ap₂, ◌∙◌, subst}
 use mathlib.Core.Bool.{false}
 use mathlib.Core.List.{List, [], ◌∷◌, ◌++◌}
@@ -9,8 +10,6 @@ use lib.Seq.{take_at, drop_at, length-take-le}
 use Rattle.geometry.specs.Plate.{area}
 use Rattle.theory.specs.Listing.{drawing}
 use Rattle.theory.proofs.Drawing.{drawing-listing}
-use Rattle.refusal.specs.declared.Verdict.{Verdict}
-use Rattle.refusal.specs.declared.Verdict.TheVariants.{Accepted}
 use Rattle.refusal.specs.Refusals.{head_of, largest_erosion, written}
 use Rattle.refusal.specs.Sides.{Sides}
 use Rattle.refusal.proofs.Refusals.{Sound, map-sound, same-verdict, shortest-two}
@@ -21,9 +20,10 @@ use Rattle.jobs.specs.Calls.{relief, plate_trial, draw_verdict, listed, list_tri
 use Rattle.job_theorems.specs.Canonical.{Lists}
 use Rattle.job_theorems.specs.Restored.{Listing, listed_file, Drawing, Restored}
 use Rattle.job_theorems.proofs.Answers.{after, given-file, given-lists, listing-writable}
+use Rattle.refusal.specs.Refusals.{Verdict}
 
 module _ (m : List ℕ) (k w h : ℕ) (s : Listing m k w h) where
-  pub accepts : list_verdict m k w h s.out s.a s.b ≡ Accepted
+  pub accepts : list_verdict m k w h s.out s.a s.b ≡ Ok tt
   accepts = after (list_trials m k w h s.a s.b) (room_for (head_of k w h) (listed m k w h) s.out) s.right ∙ s.room
 
   pub file-is : listed_file s ≡ encoded (head_of k w h) (listed m k w h)
@@ -68,7 +68,7 @@ module _ (m : List ℕ) (k w h : ℕ) (s : Listing m k w h) where
         ∙ ap (λ (n : ℕ). drop n d.map) whole;
   }
     where
-      draws : draw_verdict (listed_file s) d.map ≡ Accepted
+      draws : draw_verdict (listed_file s) d.map ≡ Ok tt
       draws = after (file_trials (listed_file s)) (plate_trial (listed_file s) (length d.map ∷ []) ∷ []) reads ∙ d.long
 
       whole : length (take (area (head_of k w h)) m) ≡ area (head_of k w h)

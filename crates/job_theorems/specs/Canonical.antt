@@ -1,5 +1,5 @@
 -- To be believed: demand 3, the canonical-form theorem's statement, about what the tidying call answers and leaves, by the records that its contract cites.
-use Rattle.std.specs.Prelude.{◌≡◌, ◌↔◌, ℕ, length, take}
+use Rattle.std.specs.Prelude.{◌≡◌, ◌↔◌, ℕ, length, take, Ok, Err, Result}
 use mathlib.Core.List.{List, [], ◌∷◌, Memᴰ}
 use Rattle.geometry.specs.declared.Head.{Head}
 use Rattle.geometry.specs.declared.Plunge.{Plunge}
@@ -7,18 +7,17 @@ use Rattle.geometry.specs.Plane.{Cell}
 use Rattle.geometry.specs.Plate.{On, at}
 use Rattle.geometry.specs.Plunges.{Inside}
 use Rattle.theory.specs.Listing.{Fits, Maximal, Rising, listing}
-use Rattle.refusal.specs.declared.Verdict.{Verdict}
-use Rattle.refusal.specs.declared.Verdict.TheVariants.{Accepted}
 use Rattle.refusal.specs.Refusals.{Trial, first_met, largest_erosion}
 use Rattle.reading.specs.Reading.{IsReadable, head_in, plunges_in}
-use Rattle.listing.specs.declared.ListAnswer.{ListAnswer}
-use Rattle.listing.specs.declared.ListAnswer.TheVariants.{Listed, Unlisted}
 use Rattle.jobs.specs.Calls.{relief, tidied_plunges, TidyCall, work_trial, room_for}
 use Rattle.job_check.specs.Checking.{CheckCall}
+use Rattle.refusal.specs.Refusals.{Verdict}
+use Rattle.listing.specs.declared.Extent.{Extent}
+use Rattle.refusal.specs.declared.Refusal.{Refusal}
 
 -- none of some trials is met
 abbrev pub NoneMet : List Trial → Type 0
-NoneMet ts = first_met ts ≡ Accepted
+NoneMet ts = first_met ts ≡ Ok tt
 
 -- a tidying of f with buffers long enough: what the call was given, answered and left. A list "is accepted, or readable, when reading refuses
 -- nothing in it; buffers are long enough where neither 4 nor 5 is met"
@@ -31,16 +30,16 @@ pub record Tidying (f : List ℕ) : Type 0 where
   pub b' : List ℕ
   pub c : List ℕ
   pub c' : List ℕ
-  pub answer : ListAnswer
+  pub answer : Result Extent Refusal
   pub call : TidyCall f out out' a a' b b' c c' answer
   pub readable : IsReadable f
   pub works : NoneMet (work_trial f a b c ∷ [])
   pub room : NoneMet (room_for (head_in f) (tidied_plunges f) out)
 
 -- how many bytes a list in an answer has; a refusal has none
-abbrev pub bytes_of : ListAnswer → ℕ
-bytes_of (Listed e) = e.bytes
-bytes_of (Unlisted r) = 0
+abbrev pub bytes_of : Result Extent Refusal → ℕ
+bytes_of (Ok e) = e.bytes
+bytes_of (Err r) = 0
 
 -- "The tidied list is the bytes of the answer alone, from head to end field"
 abbrev pub file : {f : List ℕ} → Tidying f → List ℕ
@@ -86,11 +85,11 @@ pub record Canonical (f F : List ℕ) : Type 0 where
   -- 6: tidied again with buffers long enough, it comes back equal in length and in every byte;
   -- and the tidy check accepts a readable file exactly when tidying returns its bytes
   pub again : (t : Tidying F) → file t ≡ F
-  pub checked : (s : Checking f) → (s.answer ≡ Accepted) ↔ (F ≡ f)
+  pub checked : (s : Checking f) → (s.answer ≡ Ok tt) ↔ (F ≡ f)
 
 -- an answer with a list: how long it is, and how many plunges it has; the rungs climbed for it are no part of it
-abbrev pub Lists : ListAnswer → List ℕ → Type 0
-Lists r F = (rungs : ℕ) × (r ≡ Listed (record { bytes = length F; plunges = length (plunges_in F); erosions = rungs }))
+abbrev pub Lists : Result Extent Refusal → List ℕ → Type 0
+Lists r F = (rungs : ℕ) × (r ≡ Ok (record { bytes = length F; plunges = length (plunges_in F); erosions = rungs }))
 
 -- the whole demand, for two accepted files, each tidied with buffers long enough
 pub record CanonicalForm {f g : List ℕ} (s : Tidying f) (t : Tidying g) : Type 0 where

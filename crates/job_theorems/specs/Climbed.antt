@@ -1,18 +1,18 @@
 -- To be believed: what the rungs climbed say of a relief and of its list (document 02, N5), about what the calls list and tidy answer.
-use Rattle.std.specs.Prelude.{◌≡◌, ◌↔◌, ℕ, ◌+◌, ◌/◌, ◌≤◌, ◌<◌, min}
+use Rattle.std.specs.Prelude.{◌≡◌, ◌↔◌, ℕ, ◌+◌, ◌/◌, ◌≤◌, ◌<◌, min, Result, Ok, Err}
 use mathlib.Core.List.{List, Memᴰ}
 use Rattle.geometry.specs.declared.Head.{Head}
 use Rattle.geometry.specs.declared.Plunge.{Plunge}
 use Rattle.geometry.specs.Plane.{Cell}
 use Rattle.geometry.specs.Plate.{at}
 use Rattle.theory.specs.Climbed.{IsErosionCount}
-use Rattle.listing.specs.declared.ListAnswer.{ListAnswer}
-use Rattle.listing.specs.declared.ListAnswer.TheVariants.{Listed, Unlisted}
+use Rattle.listing.specs.declared.Extent.{Extent}
+use Rattle.refusal.specs.declared.Refusal.{Refusal}
 
 -- the count in an answer; a refusal has none
-abbrev pub erosions_of : ListAnswer → ℕ
-erosions_of (Listed e) = e.erosions
-erosions_of (Unlisted r) = 0
+abbrev pub erosions_of : Result Extent Refusal → ℕ
+erosions_of (Ok e) = e.erosions
+erosions_of (Err r) = 0
 
 -- n rungs were climbed for the list qs of relief m
 pub record Climbed (p : Head) (m : List ℕ) (qs : List Plunge) (n : ℕ) : Type 0 where

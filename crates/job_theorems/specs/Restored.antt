@@ -1,13 +1,13 @@
 -- To be believed: demand 2, from the list back to the relief: about what the calls list and draw answer and leave, by the records that their contracts cite.
-use Rattle.std.specs.Prelude.{◌≡◌, List, [], ◌∷◌, ℕ, length, take, drop}
+use Rattle.std.specs.Prelude.{◌≡◌, List, [], ◌∷◌, ℕ, length, take, drop, Ok, Result}
 use Rattle.geometry.specs.Plate.{area}
-use Rattle.refusal.specs.declared.Verdict.{Verdict}
-use Rattle.refusal.specs.declared.Verdict.TheVariants.{Accepted}
 use Rattle.refusal.specs.Refusals.{head_of}
 use Rattle.reading.specs.Reading.{IsReadable}
-use Rattle.listing.specs.declared.ListAnswer.{ListAnswer}
 use Rattle.jobs.specs.Calls.{Drawn, plate_trial, ListCall, listed, list_trials, room_for}
 use Rattle.job_theorems.specs.Canonical.{NoneMet, bytes_of, Lists}
+use Rattle.refusal.specs.Refusals.{Verdict}
+use Rattle.listing.specs.declared.Extent.{Extent}
+use Rattle.refusal.specs.declared.Refusal.{Refusal}
 
 -- a listing of a relief with buffers long enough: none of 1, 2, 4 and 5 is met
 pub record Listing (m : List ℕ) (k w h : ℕ) : Type 0 where
@@ -17,7 +17,7 @@ pub record Listing (m : List ℕ) (k w h : ℕ) : Type 0 where
   pub a' : List ℕ
   pub b : List ℕ
   pub b' : List ℕ
-  pub answer : ListAnswer
+  pub answer : Result Extent Refusal
   pub call : ListCall m k w h out out' a a' b b' answer
   pub right : NoneMet (list_trials m k w h a b)
   pub room : NoneMet (room_for (head_of k w h) (listed m k w h) out)
@@ -38,6 +38,6 @@ pub record Drawing (f : List ℕ) : Type 0 where
 pub record Restored {m : List ℕ} {k w h : ℕ} (s : Listing m k w h) (d : Drawing (listed_file s)) : Type 0 where
   pub lists : Lists s.answer (listed_file s)
   pub readable : IsReadable (listed_file s)
-  pub accepted : d.answer ≡ Accepted
+  pub accepted : d.answer ≡ Ok tt
   pub bytes : take (area (head_of k w h)) d.map' ≡ take (area (head_of k w h)) m
   pub rest : drop (area (head_of k w h)) d.map' ≡ drop (area (head_of k w h)) d.map

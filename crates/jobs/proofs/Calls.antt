@@ -1,4 +1,5 @@
 -- What the calls on files leave, refused and done: their verdicts by the tests that were made, their buffers by what was done.
+use Rattle.std.specs.Prelude.{Ok, Err, Result}
 use mathlib.Core.Path.{◌≡◌, refl, sym, ap, ap₂, ◌∙◌, subst, fun_ext}
 use mathlib.Core.Logic.{◌⊎◌, inl, inr}
 use mathlib.Core.Bool.{Bool, true, false, cond}
@@ -17,8 +18,6 @@ use Rattle.theory.specs.Listing.{listing, drawn}
 use Rattle.theory.proofs.Plate.{on-or-off, at-cell, at-tabulated}
 use Rattle.theory.proofs.Canonical.{count_same, listing-same}
 use Rattle.refusal.specs.declared.Refusal.{Refusal}
-use Rattle.refusal.specs.declared.Verdict.{Verdict}
-use Rattle.refusal.specs.declared.Verdict.TheVariants.{Accepted, Refused}
 use Rattle.refusal.specs.Refusals.{Trial, first_met, short, map_trials, head_of, largest_erosion, free, written, Answered, Worked}
 use Rattle.refusal.proofs.Refusals.{shortest-two, same-verdict, map-sound, answered-refused}
 use Rattle.refusal.proofs.Trials.{and_then, first-append}
@@ -31,13 +30,13 @@ use Rattle.reading.proofs.Readable.{readable-sound}
 use Rattle.reading.proofs.Answers.{after-file, file-fault}
 use Rattle.refusal.specs.Sides.{Sides}
 use Rattle.drawing_box.specs.Boxed.{Drawable}
-use Rattle.listing.specs.declared.ListAnswer.{ListAnswer}
-use Rattle.listing.specs.declared.ListAnswer.TheVariants.{Unlisted}
 use Rattle.listing.specs.Staging.{ListedInto}
 use Rattle.listing.specs.Answers.{room_trials, list_answer}
 use Rattle.jobs.specs.Calls.{relief, plate_trial, draw_verdict, listed, list_trials, room_for, list_verdict, ListAnswered, ListCall, tidied_plunges, tidy_verdict, TidyCall}
 use Rattle.reading.specs.Steps.{JobOf}
 use Rattle.listing_plunges.specs.Listable.{Listable}
+use Rattle.refusal.specs.Refusals.{Verdict}
+use Rattle.listing.specs.declared.Extent.{Extent}
 
 -- ---- the plate's buffers
 
@@ -57,7 +56,7 @@ long-one w h a l = rw (le-ltb a (h * w) l)
 -- of a readable file: 4, then the rest
 module _ (f : List ℕ) (lengths : List ℕ) (more : List Trial) where
   pub plate-fault : IsReadable f → short (head_in f).width (head_in f).height lengths ≡ true
-      → first_met (file_trials f ++ (plate_trial f lengths ∷ more)) ≡ Refused (record { number = 4; place = 0 })
+      → first_met (file_trials f ++ (plate_trial f lengths ∷ more)) ≡ Err (record { number = 4; place = 0 })
   plate-fault e s = after-file f (plate_trial f lengths ∷ more) e ∙ rw s
 
   pub no-fault : IsReadable f → short (head_in f).width (head_in f).height lengths ≡ false
@@ -84,12 +83,12 @@ kept-mapped p g a a' m = record { same = m.same; surplus = m.surplus }
 pub room-free : (n : ℕ) (out : List ℕ) → free (first_met (room_trials n out)) ≡ true
 room-free n out = go (ltb (length out) n)
   where
-    go : (b : Bool) → free (cond b (Refused (record { number = 5; place = n })) Accepted) ≡ true
+    go : (b : Bool) → free (cond b (Err (record { number = 5; place = n })) (Ok tt)) ≡ true
     go true = refl
     go false = refl
 
-pub listing-refused : (v : Verdict) (q : Refusal) (p : Head) (qs : List Plunge) (n : ℕ) (out a b : List ℕ) → v ≡ Refused q
-    → ListAnswered v p qs n out out a a b b (Unlisted q)
+pub listing-refused : (v : Verdict) (q : Refusal) (p : Head) (qs : List Plunge) (n : ℕ) (out a b : List ℕ) → v ≡ Err q
+    → ListAnswered v p qs n out out a a b b (Err q)
 listing-refused v q p qs n out a b e =
     record {
       answer = sym (ap (λ (u : Verdict). list_answer u p qs n) e);
@@ -98,7 +97,7 @@ listing-refused v q p qs n out a b e =
       second = worked-none v (area p) b;
     }
 
-pub listing-done : (v : Verdict) (p : Head) (qs : List Plunge) (n : ℕ) (out out' a a' b b' : List ℕ) (r : ListAnswer)
+pub listing-done : (v : Verdict) (p : Head) (qs : List Plunge) (n : ℕ) (out out' a a' b b' : List ℕ) (r : (Result Extent Refusal))
     → v ≡ first_met (room_for p qs out)
     → r ≡ list_answer (first_met (room_for p qs out)) p qs n
     → out' ≡ written (first_met (room_for p qs out)) (encoded p qs) out → PlateOnly p a a' → PlateOnly p b b'
@@ -150,17 +149,17 @@ drawn-bytes f p n old new e l h m =
 -- ---- the calls, each by the tests that led to its end
 
 -- on a fault everything stays
-pub draw-fault : (f : List ℕ) (q : Refusal) (out : List ℕ) → first_met (file_trials f) ≡ Refused q → Answered (draw_verdict f out) (relief f) out out (Refused q)
+pub draw-fault : (f : List ℕ) (q : Refusal) (out : List ℕ) → first_met (file_trials f) ≡ Err q → Answered (draw_verdict f out) (relief f) out out (Err q)
 draw-fault f q out e = answered-refused (draw_verdict f out) q (relief f) out (file-fault f _ q e)
 
-tidy-refused : (f : List ℕ) (q : Refusal) (out a b c : List ℕ) → tidy_verdict f out a b c ≡ Refused q → TidyCall f out out a a b b c c (Unlisted q)
+tidy-refused : (f : List ℕ) (q : Refusal) (out a b c : List ℕ) → tidy_verdict f out a b c ≡ Err q → TidyCall f out out a a b b c c (Err q)
 tidy-refused f q out a b c e =
     record {
       list = listing-refused (tidy_verdict f out a b c) q (head_in f) (tidied_plunges f) _ out a b e;
       third = worked-none (tidy_verdict f out a b c) (area (head_in f)) c;
     }
 
-pub tidy-fault : (f : List ℕ) (q : Refusal) (out a b c : List ℕ) → first_met (file_trials f) ≡ Refused q → TidyCall f out out a a b b c c (Unlisted q)
+pub tidy-fault : (f : List ℕ) (q : Refusal) (out a b c : List ℕ) → first_met (file_trials f) ≡ Err q → TidyCall f out out a a b b c c (Err q)
 tidy-fault f q out a b c e = tidy-refused f q out a b c (file-fault f _ q e)
 
 -- of a file that was read
@@ -185,15 +184,15 @@ module _ (f : List ℕ) (j : Job) (w : JobOf f j) where
 
   -- drawing
   pub draw-short : (out : List ℕ) (q : Refusal) → q ≡ record { number = 4; place = 0 } → length out < area j.head
-      → Answered (draw_verdict f out) (relief f) out out (Refused q)
+      → Answered (draw_verdict f out) (relief f) out out (Err q)
   draw-short out q e l = answered-refused (draw_verdict f out) q (relief f) out
       (plate-fault f (length out ∷ []) [] w.readable (short-of (length out ∷ []) (short-one j.head.width j.head.height (length out) l))
-      ∙ sym (ap Refused e))
+      ∙ sym (ap Err e))
 
   pub draw-done : (out out' : List ℕ) → area j.head ≤ length out → Mapped j.head (drawn j.head.kind (plunges_up_to j.plunges f)) out out'
-      → Answered (draw_verdict f out) (relief f) out out' Accepted
+      → Answered (draw_verdict f out) (relief f) out out' (Ok tt)
   draw-done out out' l m =
-      let v : draw_verdict f out ≡ Accepted = no-fault f (length out ∷ []) [] w.readable
+      let v : draw_verdict f out ≡ (Ok tt) = no-fault f (length out ∷ []) [] w.readable
       (long_of (length out ∷ []) (long-one j.head.width j.head.height (length out) l)) in
       record {
         answer = sym v;
@@ -206,15 +205,15 @@ module _ (f : List ℕ) (j : Job) (w : JobOf f j) where
     abbrev works : List ℕ
     works = length a ∷ length b ∷ length c ∷ []
 
-    pub tidy-short : (q : Refusal) → q ≡ record { number = 4; place = 0 } → n < area j.head → TidyCall f out out a a b b c c (Unlisted q)
+    pub tidy-short : (q : Refusal) → q ≡ record { number = 4; place = 0 } → n < area j.head → TidyCall f out out a a b b c c (Err q)
     tidy-short q g l = tidy-refused f q out a b c
         (plate-fault f works _ w.readable (short-of works (short-three j.head.width j.head.height (length a) (length b) (length c) n e l))
-        ∙ sym (ap Refused g))
+        ∙ sym (ap Err g))
 
     pub works-long : area j.head ≤ n → short (head_in f).width (head_in f).height works ≡ false
     works-long l = long_of works (long-three j.head.width j.head.height (length a) (length b) (length c) n e l)
 
-    pub tidy-done : area j.head ≤ n → (out' a' b' c' : List ℕ) (r : ListAnswer) → Mapped j.head (drawn j.head.kind (plunges_up_to j.plunges f)) c c'
+    pub tidy-done : area j.head ≤ n → (out' a' b' c' : List ℕ) (r : (Result Extent Refusal)) → Mapped j.head (drawn j.head.kind (plunges_up_to j.plunges f)) c c'
         → ListedInto j.head c' out out' r → PlateOnly j.head a a' → PlateOnly j.head b b' → TidyCall f out out' a a' b b' c c' r
     tidy-done l out' a' b' c' r m d x y =
         record {
@@ -260,12 +259,12 @@ module _ (m : List ℕ) (k w h : ℕ) (out a b : List ℕ) (n : ℕ) (v : Verdic
       (room_for (head_of k w h) (listed m k w h) out) ∙ ap
       (λ (u : Verdict). and_then u (first_met (room_for (head_of k w h) (listed m k w h) out))) judged
 
-  pub list-refused : (q : Refusal) → v ≡ Refused q → ListCall m k w h out out a a b b (Unlisted q)
+  pub list-refused : (q : Refusal) → v ≡ Err q → ListCall m k w h out out a a b b (Err q)
   list-refused q l = listing-refused (list_verdict m k w h out a b) q (head_of k w h) (listed m k w h) _ out a b
       (verdict ∙ ap (λ (u : Verdict). and_then u (first_met (room_for (head_of k w h) (listed m k w h) out))) l)
 
   -- what the listing asks
-  pub list-asks : v ≡ Accepted → (p : Head) → p ≡ head_of k w h → Listable p m a b
+  pub list-asks : v ≡ Ok tt → (p : Head) → p ≡ head_of k w h → Listable p m a b
   list-asks l p i =
       let s = map-sound k w h false n (sym g ∙ l) in
       subst (λ (q : Head). Listable q m a b) (sym i)
@@ -276,7 +275,7 @@ module _ (m : List ℕ) (k w h : ℕ) (out a b : List ℕ) (n : ℕ) (v : Verdic
         second = omega (arith, s.long);
       })
 
-  pub list_done : v ≡ Accepted → (p : Head) → p ≡ head_of k w h → (out' a' b' : List ℕ) (r : ListAnswer) → ListedInto p m out out' r
+  pub list_done : v ≡ Ok tt → (p : Head) → p ≡ head_of k w h → (out' a' b' : List ℕ) (r : (Result Extent Refusal)) → ListedInto p m out out' r
       → PlateOnly p a a' → PlateOnly p b b' → ListCall m k w h out out' a a' b b' r
   list_done l p i out' a' b' r d x y =
       let into : ListedInto (head_of k w h) m out out' r = subst (λ (q : Head). ListedInto q m out out' r) i d in

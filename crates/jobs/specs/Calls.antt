@@ -1,16 +1,17 @@
 -- To be believed: calls on plunge files: what each answers, and what its buffers hold at exit (document 01, "Plunge file, drawing, tidying" and "Refusals in their order"; document 02, N5).
-use Rattle.std.specs.Prelude.{◌≡◌, false, List, [], ◌∷◌, ◌++◌, ℕ, length}
+use Rattle.std.specs.Prelude.{◌≡◌, false, List, [], ◌∷◌, ◌++◌, ℕ, length, Result}
 use Rattle.geometry.specs.declared.Head.{Head}
 use Rattle.geometry.specs.declared.Plunge.{Plunge}
 use Rattle.geometry.specs.Plate.{area}
 use Rattle.theory.specs.Climbed.{erosion_count}
 use Rattle.theory.specs.Listing.{listing, drawing, canonical}
-use Rattle.refusal.specs.declared.Verdict.{Verdict}
 use Rattle.refusal.specs.Refusals.{Trial, trial, first_met, map_trials, short, head_of, largest_erosion, written, Answered, Worked}
 use Rattle.fields.specs.Fields.{encoded, file_length}
 use Rattle.reading.specs.Reading.{file_trials, head_in, plunges_in}
-use Rattle.listing.specs.declared.ListAnswer.{ListAnswer}
 use Rattle.listing.specs.Answers.{room_trials, list_answer}
+use Rattle.refusal.specs.Refusals.{Verdict}
+use Rattle.listing.specs.declared.Extent.{Extent}
+use Rattle.refusal.specs.declared.Refusal.{Refusal}
 
 -- ---- drawing
 
@@ -46,13 +47,13 @@ abbrev pub list_verdict : List ℕ → ℕ → ℕ → ℕ → List ℕ → List
 list_verdict m k w h out a b = first_met (list_trials m k w h a b ++ room_for (head_of k w h) (listed m k w h) out)
 
 -- a call that answers with a list, for which some rungs were climbed: the answer, the file's bytes, two work buffers
-pub record ListAnswered (verdict : Verdict) (p : Head) (qs : List Plunge) (rungs : ℕ) (out out' a a' b b' : List ℕ) (r : ListAnswer) : Type 0 where
+pub record ListAnswered (verdict : Verdict) (p : Head) (qs : List Plunge) (rungs : ℕ) (out out' a a' b b' : List ℕ) (r : (Result Extent Refusal)) : Type 0 where
   pub answer : r ≡ list_answer verdict p qs rungs
   pub bytes : out' ≡ written verdict (encoded p qs) out
   pub first : Worked verdict (area p) a a'
   pub second : Worked verdict (area p) b b'
 
-abbrev pub ListCall : List ℕ → ℕ → ℕ → ℕ → List ℕ → List ℕ → List ℕ → List ℕ → List ℕ → List ℕ → ListAnswer → Type 0
+abbrev pub ListCall : List ℕ → ℕ → ℕ → ℕ → List ℕ → List ℕ → List ℕ → List ℕ → List ℕ → List ℕ → Result Extent Refusal → Type 0
 ListCall m k w h out out' a a' b b' =
     ListAnswered (list_verdict m k w h out a b) (head_of k w h) (listed m k w h) (erosion_count (head_of k w h) m) out out' a a' b b'
 
@@ -71,6 +72,6 @@ work_trial f a b c = plate_trial f (length a ∷ length b ∷ length c ∷ [])
 abbrev pub tidy_verdict : List ℕ → List ℕ → List ℕ → List ℕ → List ℕ → Verdict
 tidy_verdict f out a b c = first_met (file_trials f ++ (work_trial f a b c ∷ room_for (head_in f) (tidied_plunges f) out))
 
-pub record TidyCall (f out out' a a' b b' c c' : List ℕ) (r : ListAnswer) : Type 0 where
+pub record TidyCall (f out out' a a' b b' c c' : List ℕ) (r : (Result Extent Refusal)) : Type 0 where
   pub list : ListAnswered (tidy_verdict f out a b c) (head_in f) (tidied_plunges f) (erosion_count (head_in f) (relief f)) out out' a a' b b' r
   pub third : Worked (tidy_verdict f out a b c) (area (head_in f)) c c'

@@ -2,7 +2,7 @@
 ghost use Rattle.reading.specs.Steps.{JobOf};
 
 use motion_floats::Scale;
-use reading::{Job, ReadAnswer};
+use reading::Job;
 
 // The motions of a readable file's plunges: each page goes on where the one before ended.
 fn print_job(fd: i32, table: &[u16; sink::ENTRIES], file: &[u8], job: Job, scale: Scale) -> bool
@@ -26,7 +26,7 @@ fn print_job(fd: i32, table: &[u16; sink::ENTRIES], file: &[u8], job: Job, scale
 pub fn print_motions(fd: i32, table: &[u16; sink::ENTRIES], file: &[u8], scale: Scale) -> bool {
     let answer = reading::read(file);
     match answer {
-        ReadAnswer::Readable(job) => print_job(fd, table, file, job, scale),
-        ReadAnswer::Unreadable(_) => false,
+        Ok(job) => print_job(fd, table, file, job, scale),
+        Err(_) => false,
     }
 }

@@ -33,8 +33,8 @@ fn load_named(rt: &HostRuntime, number: usize, input: &mut [u8]) -> Given
     let bytes = got.bytes;
     let verdict = table_field::load(&input[..bytes], &mut table);
     match verdict {
-        Verdict::Accepted => Given { table, status: 0 },
-        Verdict::Refused(refusal) => Given {
+        Ok(()) => Given { table, status: 0 },
+        Err(refusal) => Given {
             table,
             status: say_refused(&from[..n], &input[..bytes], refusal),
         },

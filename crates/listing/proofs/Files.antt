@@ -1,4 +1,5 @@
 -- Laws of a listing's file: what counting it gives, the room it takes, and its three parts written one after the other.
+use Rattle.std.specs.Prelude.{Ok, Err}
 use mathlib.Core.Path.{◌≡◌, refl, sym, ap, ap₂, ◌∙◌}
 use mathlib.Core.Bool.{true}
 use mathlib.Core.List.{List, ◌++◌, append_assoc}
@@ -21,7 +22,6 @@ use Rattle.listing_pass.specs.declared.Pass.{Pass}
 use Rattle.listing_pass.specs.declared.Pass.TheVariants.{Write, Stage}
 use Rattle.listing_pass.specs.declared.Progress.{Progress}
 use Rattle.listing_pass.specs.Sent.{Sent}
-use Rattle.listing.specs.declared.ListAnswer.TheVariants.{Listed, Unlisted}
 use Rattle.listing.specs.Staging.{stage_length, KeptPlunges, ListedInto}
 
 -- a pass that stages asks for no room
@@ -91,17 +91,17 @@ module _ (p : Head) (m old new : List ℕ) where
 
   -- too short: refused, and the output stays
   pub answered-short : (n : ℕ) → n ≡ file_length p (length qs) → length old < n → new ≡ old
-      → ListedInto p m old new (Unlisted (record { number = 5; place = n }))
+      → ListedInto p m old new (Err (record { number = 5; place = n }))
   answered-short n e h g =
       let l : length old < file_length p (length qs) = omega arith in
-      record { answer = rw (lt-ltb _ _ l) (ap (λ (k : ℕ). Unlisted (record { number = 5; place = k })) e); bytes = rw (lt-ltb _ _ l) g }
+      record { answer = rw (lt-ltb _ _ l) (ap (λ (k : ℕ). Err (record { number = 5; place = k })) e); bytes = rw (lt-ltb _ _ l) g }
 
   -- long enough: the whole file, and what lay past it
   pub answered-long : (n k j : ℕ) → n ≡ file_length p (length qs) → k ≡ length qs → j ≡ erosion_count p m → n ≤ length old
-      → new ≡ encoded p qs ++ drop (length (encoded p qs)) old → ListedInto p m old new (Listed (record { bytes = n; plunges = k; erosions = j }))
+      → new ≡ encoded p qs ++ drop (length (encoded p qs)) old → ListedInto p m old new (Ok (record { bytes = n; plunges = k; erosions = j }))
   answered-long n k j e f d h g =
       let l : file_length p (length qs) ≤ length old = omega arith in
-      record { answer = rw (le-ltb _ _ l) (λ i. Listed (record { bytes = e i; plunges = f i; erosions = d i })); bytes = rw (le-ltb _ _ l) g }
+      record { answer = rw (le-ltb _ _ l) (λ i. Ok (record { bytes = e i; plunges = f i; erosions = d i })); bytes = rw (le-ltb _ _ l) g }
 
 -- head, plunges and end, each written where the last one ended
 module _ (p : Head) (qs : List Plunge) (old : List ℕ) (h : file_length p (length qs) ≤ length old) where

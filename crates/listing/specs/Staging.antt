@@ -1,16 +1,17 @@
 -- Serves proofs: what the listing keeps while it counts, and what it leaves in its output.
-use Rattle.std.specs.Prelude.{◌≡◌, List, ℕ, ◌-◌, ◌≤◌, length, take, drop}
+use Rattle.std.specs.Prelude.{◌≡◌, List, ℕ, ◌-◌, ◌≤◌, length, take, drop, Result}
 use Rattle.geometry.specs.declared.Head.{Head}
 use Rattle.geometry.specs.declared.Plunge.{Plunge}
 use Rattle.geometry.specs.Sizes.{size_of}
 use Rattle.theory.specs.Climbed.{erosion_count}
 use Rattle.theory.specs.Listing.{listing}
-use Rattle.refusal.specs.declared.Verdict.{Verdict}
 use Rattle.refusal.specs.Refusals.{first_met, largest_erosion, written}
 use Rattle.fields.specs.Fields.{plunge_fields, file_length, encoded, place}
-use Rattle.listing.specs.declared.ListAnswer.{ListAnswer}
 use Rattle.listing.specs.Answers.{room_trials, list_answer}
 use Rattle.listing_plunges.specs.Listable.{Listable}
+use Rattle.refusal.specs.Refusals.{Verdict}
+use Rattle.listing.specs.declared.Extent.{Extent}
+use Rattle.refusal.specs.declared.Refusal.{Refusal}
 
 -- whether the file of a relief's listing has room in an output
 abbrev pub room_verdict : Head → List ℕ → List ℕ → Verdict
@@ -25,7 +26,7 @@ abbrev pub KeptPlunges : Head → List ℕ → ℕ → List Plunge → Type 0
 KeptPlunges p kept end qs = end ≤ stage_length → take (end - place p 0) (drop (place p 0) kept) ≡ plunge_fields (size_of p) qs
 
 -- the listing of a relief, answered and written to an output
-pub record ListedInto (p : Head) (m old new : List ℕ) (r : ListAnswer) : Type 0 where
+pub record ListedInto (p : Head) (m old new : List ℕ) (r : (Result Extent Refusal)) : Type 0 where
   pub answer : r ≡ list_answer (room_verdict p m old) p (listing p largest_erosion m) (erosion_count p m)
   pub bytes : new ≡ written (room_verdict p m old) (encoded p (listing p largest_erosion m)) old
 

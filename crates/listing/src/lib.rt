@@ -24,13 +24,6 @@ pub struct Extent {
     pub erosions: usize,
 }
 
-// What a listing answers.
-#[derive(Clone, Copy)]
-pub enum ListAnswer {
-    Listed(Extent),
-    Unlisted(Refusal),
-}
-
 // The bytes of a file that the first pass can keep: the plunges of a longer one are found again by a second pass.
 pub const STAGE: usize = 32768;
 
@@ -75,7 +68,7 @@ pub fn list_into(
     out: &mut [u8],
     a: &mut [u8],
     b: &mut [u8],
-) -> ListAnswer
+) -> Result<Extent, Refusal>
     requires { Listable head relief.now a.old b.old }
     ensures { ListedInto head relief.now out.old out.new result
         × PlateOnly head a.old a.new × PlateOnly head b.old b.new }
@@ -86,7 +79,7 @@ pub fn list_into(
     let plunges = (end - fields::place(head, 0)) / fields::plunge_bytes(head.size());
     let bytes = end + fields::END_BYTES;
     if out.len() < bytes {
-        return ListAnswer::Unlisted(Refusal {
+        return Err(Refusal {
             number: 5,
             place: bytes,
         });
@@ -94,7 +87,7 @@ pub fn list_into(
     fields::put_head(out, head);
     put_plunges(head, relief, &kept, end, out, a, b);
     fields::put_end(out, end, plunges);
-    ListAnswer::Listed(Extent {
+    Ok(Extent {
         bytes,
         plunges,
         erosions: counted.erosions,

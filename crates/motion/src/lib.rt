@@ -9,14 +9,8 @@ ghost use Rattle.sink.specs.Sink.{built_in};
 ghost use Rattle.motion.specs.Motions.{changes, ask_trials, motions_in};
 
 use motion_floats::{Motions, Scale};
-use reading::{Job, ReadAnswer};
+use reading::Job;
 use refusal::{Refusal, Verdict};
-
-#[derive(Clone, Copy)]
-pub enum MotionAnswer {
-    Moves(Motions),
-    NoMoves(Refusal),
-}
 
 // ---- the plunge that is asked for
 
@@ -43,7 +37,7 @@ fn check_asked(plunges: usize, i: usize, scale: Scale) -> Verdict
     if plunges <= i {
         return refusal::refuse(14, 0);
     }
-    Verdict::Accepted
+    Ok(())
 }
 
 // ---- by a table
@@ -55,21 +49,16 @@ pub fn motions_at(
     job: Job,
     i: usize,
     scale: Scale,
-) -> MotionAnswer
+) -> Result<Motions, Refusal>
     requires { JobOf file.now job }
     ensures { result ≡ motions_in table.now file.now i scale }
 {
-    let asked = check_asked(job.plunges, i, scale);
-    match asked {
-        Verdict::Refused(r) => MotionAnswer::NoMoves(r),
-        Verdict::Accepted => {
-            let changed = is_changed(file, job, i);
-            let q = reading::nth_plunge(file, job, i);
-            let depth = q.depth as usize;
-            let entry = table[depth];
-            MotionAnswer::Moves(motion_floats::motions_of(entry, scale, changed, q))
-        }
-    }
+    check_asked(job.plunges, i, scale)?;
+    let changed = is_changed(file, job, i);
+    let q = reading::nth_plunge(file, job, i);
+    let depth = q.depth as usize;
+    let entry = table[depth];
+    Ok(motion_floats::motions_of(entry, scale, changed, q))
 }
 
 // The motions of plunge number i of a file. The file's refusals, then 13 and 14.
@@ -78,41 +67,33 @@ pub fn plunge_motions(
     file: &[u8],
     i: usize,
     scale: Scale,
-) -> MotionAnswer
+) -> Result<Motions, Refusal>
     ensures { result ≡ motions_in table.now file.now i scale }
 {
-    let answer = reading::read(file);
-    match answer {
-        ReadAnswer::Unreadable(r) => MotionAnswer::NoMoves(r),
-        ReadAnswer::Readable(job) => motions_at(table, file, job, i, scale),
-    }
+    let job = reading::read(file)?;
+    motions_at(table, file, job, i, scale)
 }
 
 // ---- by the built-in table, which no caller has to lend
 
-fn built_in_at(file: &[u8], job: Job, i: usize, scale: Scale) -> MotionAnswer
+fn built_in_at(file: &[u8], job: Job, i: usize, scale: Scale) -> Result<Motions, Refusal>
     requires { JobOf file.now job }
     ensures { result ≡ motions_in built_in file.now i scale }
 {
-    let asked = check_asked(job.plunges, i, scale);
-    match asked {
-        Verdict::Refused(r) => MotionAnswer::NoMoves(r),
-        Verdict::Accepted => {
-            let changed = is_changed(file, job, i);
-            let q = reading::nth_plunge(file, job, i);
-            let entry = sink::sink_at(q.depth);
-            MotionAnswer::Moves(motion_floats::motions_of(entry, scale, changed, q))
-        }
-    }
+    check_asked(job.plunges, i, scale)?;
+    let changed = is_changed(file, job, i);
+    let q = reading::nth_plunge(file, job, i);
+    let entry = sink::sink_at(q.depth);
+    Ok(motion_floats::motions_of(entry, scale, changed, q))
 }
 
 // The motions of plunge number i of a file. The file's refusals, then 13 and 14.
-pub fn built_in_motions(file: &[u8], i: usize, scale: Scale) -> MotionAnswer
+pub fn built_in_motions(file: &[u8], i: usize, scale: Scale) -> Result<Motions, Refusal>
     ensures { result ≡ motions_in built_in file.now i scale }
 {
     let read = reading::read(file);
     match read {
-        ReadAnswer::Unreadable(r) => MotionAnswer::NoMoves(r),
-        ReadAnswer::Readable(job) => built_in_at(file, job, i, scale),
+        Err(r) => Err(r),
+        Ok(job) => built_in_at(file, job, i, scale),
     }
 }

@@ -1,4 +1,5 @@
 -- How long the lines of motions are; a number that was put where it has room.
+use Rattle.std.specs.Prelude.{Result, Ok}
 use mathlib.Core.Path.{◌≡◌, refl, sym, ap, ◌∙◌, subst}
 use mathlib.Core.List.{List, [], ◌∷◌, ◌++◌}
 use Prim.Native.Nat.{ℕ, ◌+◌, ◌≤◌}
@@ -13,13 +14,12 @@ use Rattle.motion_floats.specs.declared.Scale.{Scale}
 use Rattle.motion_floats.specs.declared.Motion.{Motion}
 use Rattle.motion_floats.specs.declared.Motion.TheVariants.{Change, Stay, Travel, Sink}
 use Rattle.motion_floats.specs.declared.Motions.{Motions}
-use Rattle.motion.specs.declared.MotionAnswer.{MotionAnswer}
-use Rattle.motion.specs.declared.MotionAnswer.TheVariants.{Moves}
 use Rattle.motion.specs.Motions.{motions_in}
 use Rattle.decimal_text.specs.Text.{number_text, Put}
 use Rattle.decimal_text.proofs.Floats.{number_text-short}
 use Rattle.phrases.proofs.Puts.{puts-puts}
 use Rattle.motion_text.specs.Lines.{change_word, travel_word, sink_word, millimetres, motion_line, motion_lines, answer_lines, lines_at, lines_room}
+use Rattle.refusal.specs.declared.Refusal.{Refusal}
 
 -- a blank, then a number that has room behind it
 pub millimetres-put : (old new : List ℕ) (at r : ℕ) (x : Float) → at + length (millimetres x) ≤ length old
@@ -66,13 +66,13 @@ module _ (table f : List ℕ) (s : Scale) (i : ℕ) where
   pub lines-asks : (m : Motions) (old : List ℕ) (at : ℕ) → at + lines_room ≤ length old → at + length (motion_lines m) ≤ length old
   lines-asks m old at h = omega (arith, lines-length m)
 
-  pub lines-put : (a : MotionAnswer) (m : Motions) (old new : List ℕ) (at r : ℕ) → a ≡ motions_in table f i s → a ≡ Moves m
+  pub lines-put : (a : (Result Motions Refusal)) (m : Motions) (old new : List ℕ) (at r : ℕ) → a ≡ motions_in table f i s → a ≡ Ok m
       → Puts old at (motion_lines m) new r → Puts old at (lines_at table f s i) new r × (r ≤ at + lines_room)
   unfolding lines_at
   lines-put a m old new at r e g p =
       (subst (λ (xs : List ℕ). Puts old at xs new r) (ap answer_lines (sym g ∙ e)) p, omega (arith, p.1, lines-length m))
 
-  pub lines_none : (old : List ℕ) (at : ℕ) (a : MotionAnswer) → a ≡ motions_in table f i s → answer_lines a ≡ []
+  pub lines_none : (old : List ℕ) (at : ℕ) (a : (Result Motions Refusal)) → a ≡ motions_in table f i s → answer_lines a ≡ []
       → Puts old at (lines_at table f s i) old at × (at ≤ at + lines_room)
   unfolding lines_at
   lines_none old at a e n =

@@ -1,16 +1,15 @@
 -- To be believed: press motions by a sink table as text, a line for each, in ASCII; millimetres in decimal.
-use Rattle.std.specs.Prelude.{List, [], ◌∷◌, ◌++◌, ℕ, Float}
+use Rattle.std.specs.Prelude.{List, [], ◌∷◌, ◌++◌, ℕ, Float, Result, Ok, Err}
 use Rattle.geometry.specs.Lists.{gather}
 use Rattle.reading.specs.Reading.{total}
 use Rattle.motion_floats.specs.declared.Scale.{Scale}
 use Rattle.motion_floats.specs.declared.Motion.{Motion}
 use Rattle.motion_floats.specs.declared.Motion.TheVariants.{Change, Stay, Travel, Sink}
 use Rattle.motion_floats.specs.declared.Motions.{Motions}
-use Rattle.motion.specs.declared.MotionAnswer.{MotionAnswer}
-use Rattle.motion.specs.declared.MotionAnswer.TheVariants.{Moves, NoMoves}
 use Rattle.motion.specs.Motions.{motions_in}
 use Rattle.phrases.specs.Phrases.{ascii}
 use Rattle.decimal_text.specs.Text.{number_text}
+use Rattle.refusal.specs.declared.Refusal.{Refusal}
 
 abbrev pub change_word : List ℕ
 change_word = ascii "change"
@@ -40,9 +39,9 @@ abbrev pub motion_lines : Motions → List ℕ
 motion_lines m = motion_line m.first ++ motion_line m.second ++ motion_line m.third
 
 -- the lines of an answer; a refusal has none
-abbrev pub answer_lines : MotionAnswer → List ℕ
-answer_lines (Moves m) = motion_lines m
-answer_lines (NoMoves r) = []
+abbrev pub answer_lines : Result Motions Refusal → List ℕ
+answer_lines (Ok m) = motion_lines m
+answer_lines (Err r) = []
 
 -- the lines of plunge number i of a file
 unfoldable pub lines_at : List ℕ → List ℕ → Scale → ℕ → List ℕ

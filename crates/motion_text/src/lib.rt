@@ -9,7 +9,6 @@ ghost use Rattle.reading.specs.Steps.{JobOf};
 ghost use Rattle.text.specs.Pages.{PageOf};
 ghost use Rattle.motion_text.specs.Lines.{millimetres, motion_line, motion_lines, lines_at, lines_room};
 
-use motion::MotionAnswer;
 use motion_floats::{Motion, Motions, Scale};
 use reading::Job;
 use text::Page;
@@ -88,8 +87,8 @@ fn put_lines(
 {
     let answer = motion::motions_at(table, file, job, i, scale);
     match answer {
-        MotionAnswer::Moves(motions) => put_three(page, at, motions),
-        MotionAnswer::NoMoves(_) => at,
+        Ok(motions) => put_three(page, at, motions),
+        Err(_) => at,
     }
 }
 

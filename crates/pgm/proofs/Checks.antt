@@ -1,4 +1,5 @@
 -- Laws of the checks: the first fault by the tests that were made, one check after another, and what a picture without fault has.
+use Rattle.std.specs.Prelude.{Result, Ok, Err, ⊤}
 use mathlib.Core.Path.{◌≡◌, refl, sym, ap, ap₂, subst, ◌∙◌}
 use mathlib.Core.Bool.{Bool, true, false, cond, not}
 use mathlib.Core.List.{List, [], ◌∷◌, ◌++◌}
@@ -14,10 +15,6 @@ use Rattle.pgm.specs.declared.Quantity.{Quantity}
 use Rattle.pgm.specs.declared.PictureFault.{PictureFault}
 use Rattle.pgm.specs.declared.PictureFault.TheVariants.{NotPgm, NoSpace, NoNumber, OutOfRange, Short, BadSample}
 use Rattle.pgm.specs.declared.Picture.{Picture}
-use Rattle.pgm.specs.declared.PictureAnswer.{PictureAnswer}
-use Rattle.pgm.specs.declared.PictureAnswer.TheVariants.{Found, Faulty}
-use Rattle.pgm.specs.declared.Check.{Check}
-use Rattle.pgm.specs.declared.Check.TheVariants.{Passed, Failed}
 use Rattle.pgm.specs.declared.Quantity.TheVariants.{Width, Height, Maxval}
 use Rattle.refusal.specs.Refusals.{largest_side}
 use Rattle.pgm.specs.Pgm.{Trial, trial, is_white, number_after, header_in, picture_of, answer_of, picture_answer, opens, first_sample, area, count_within, first_fault, in_range, largest_sample, number_trials, numbers_trials, header_trials, raster_trials, sample_trials, picture_trials}
@@ -36,12 +33,12 @@ first-append [] ys = refl
 first-append (t ∷ xs) ys = go t.met (first-append xs ys)
   where
     go : (b : Bool) → first_fault (xs ++ ys) ≡ first_of (first_fault xs) (first_fault ys)
-        → cond b (Failed t.fault) (first_fault (xs ++ ys)) ≡ first_of (cond b (Failed t.fault) (first_fault xs)) (first_fault ys)
+        → cond b (Err t.fault) (first_fault (xs ++ ys)) ≡ first_of (cond b (Err t.fault) (first_fault xs)) (first_fault ys)
     go true e = refl
     go false e = e
 
 -- the numbers of a header, checked one by one
-pub numbers-checked : (h : Header) (w y m a r : Check) → w ≡ first_fault (number_trials Width largest_side h.width)
+pub numbers-checked : (h : Header) (w y m a r : (Result ⊤ PictureFault)) → w ≡ first_fault (number_trials Width largest_side h.width)
     → y ≡ first_fault (number_trials Height largest_side h.height) → a ≡ first_of w y → m ≡ first_fault (number_trials Maxval largest_sample h.maxval)
     → r ≡ first_of a m → r ≡ first_fault (numbers_trials h)
 numbers-checked h w y m a r ew ey ea em er =
@@ -53,7 +50,7 @@ numbers-checked h w y m a r ew ey ea em er =
 -- ---- samples
 
 module _ (f : List ℕ) (first needed most : ℕ) where
-  pub raster-short : length f - first < needed → Failed (Short (length f - first) needed) ≡ first_fault (raster_trials f first needed most)
+  pub raster-short : length f - first < needed → Err (Short (length f - first) needed) ≡ first_fault (raster_trials f first needed most)
   raster-short h = rw (lt-ltb (length f - first) needed h)
 
   -- the part of the file that was looked at
@@ -61,28 +58,28 @@ module _ (f : List ℕ) (first needed most : ℕ) where
   part_same n e = let z : first + needed - first ≡ needed = omega arith in rw z at e
 
   pub raster-bad : (n : ℕ) → needed ≤ length f - first → n ≡ count_within most (take (first + needed - first) (drop first f)) → n < needed
-      → Failed (BadSample (first + n) (get_or f (first + n) 0) most) ≡ first_fault (raster_trials f first needed most)
+      → Err (BadSample (first + n) (get_or f (first + n) 0) most) ≡ first_fault (raster_trials f first needed most)
   raster-bad n h e g =
       let l : first + n < first + needed = omega arith in
       rw (le-ltb (length f - first) needed h, ← part_same n e, lt-ltb (first + n) (first + needed) l)
 
   pub raster-passed : (n : ℕ) → needed ≤ length f - first → n ≡ count_within most (take (first + needed - first) (drop first f)) → needed ≤ n
-      → Passed ≡ first_fault (raster_trials f first needed most)
+      → (Ok tt) ≡ first_fault (raster_trials f first needed most)
   raster-passed n h e g =
       let l : first + needed ≤ first + n = omega arith in
       rw (le-ltb (length f - first) needed h, ← part_same n e, le-ltb (first + n) (first + needed) l)
 
 -- ---- a picture without fault
 
-passed-both : (b : Bool) (x : PictureFault) (c : Check) → cond b (Failed x) c ≡ Passed → (b ≡ false) × (c ≡ Passed)
+passed-both : (b : Bool) (x : PictureFault) (c : (Result ⊤ PictureFault)) → cond b (Err x) c ≡ Ok tt → (b ≡ false) × (c ≡ Ok tt)
 passed-both true x c e = let z : ◌≡◌ {A = ℕ} 0 1 = cc in absurd (omega arith)
 passed-both false x c e = (refl, e)
 
-first-of-passed : (a b : Check) → first_of a b ≡ Passed → (a ≡ Passed) × (b ≡ Passed)
-first-of-passed Passed b e = (refl, e)
-first-of-passed (Failed x) b e = let z : ◌≡◌ {A = ℕ} 0 1 = cc in absurd (omega arith)
+first-of-passed : (a b : (Result ⊤ PictureFault)) → first_of a b ≡ Ok tt → (a ≡ Ok tt) × (b ≡ Ok tt)
+first-of-passed (Ok tt) b e = (refl, e)
+first-of-passed (Err x) b e = let z : ◌≡◌ {A = ℕ} 0 1 = cc in absurd (omega arith)
 
-append-passed : (xs ys : List Trial) → first_fault (xs ++ ys) ≡ Passed → (first_fault xs ≡ Passed) × (first_fault ys ≡ Passed)
+append-passed : (xs ys : List Trial) → first_fault (xs ++ ys) ≡ Ok tt → (first_fault xs ≡ Ok tt) × (first_fault ys ≡ Ok tt)
 append-passed xs ys e = first-of-passed (first_fault xs) (first_fault ys) (sym (first-append xs ys) ∙ e)
 
 range-most : (most n : ℕ) → in_range most n ≡ true → n ≤ most
@@ -92,17 +89,17 @@ range-most most n e = go (leb 1 n) e
     go true e = leb-true n most e
     go false e = let z : ◌≡◌ {A = ℕ} 0 1 = cc in absurd (omega arith)
 
-number-most : (q : Quantity) (most : ℕ) (n : Number) → first_fault (number_trials q most n) ≡ Passed → n.value ≤ most
+number-most : (q : Quantity) (most : ℕ) (n : Number) → first_fault (number_trials q most n) ≡ Ok tt → n.value ≤ most
 number-most q most n e =
     let x = (passed-both (eqb n.end n.at) (NoNumber q n.at) (first_fault (trial (not (in_range most n.value)) (OutOfRange q n.at n.value) ∷ [])) e).1 in
-    range-most most n.value (not-false _ (passed-both (not (in_range most n.value)) (OutOfRange q n.at n.value) Passed x).0)
+    range-most most n.value (not-false _ (passed-both (not (in_range most n.value)) (OutOfRange q n.at n.value) (Ok tt) x).0)
 
 white-inside : (f : List ℕ) (i : ℕ) → is_white (get_or f i 0) ≡ true → i < length f
 white-inside [] i e = let z : ◌≡◌ {A = ℕ} 0 1 = cc in absurd (omega arith)
 white-inside (b ∷ f) zero e = omega arith
 white-inside (b ∷ f) (suc i) e = omega (arith, white-inside f i e)
 
-pub passed-lies : (f : List ℕ) (h : Header) → first_fault (picture_trials f h) ≡ Passed → Lies f (picture_of h)
+pub passed-lies : (f : List ℕ) (h : Header) → first_fault (picture_trials f h) ≡ Ok tt → Lies f (picture_of h)
 passed-lies f h e =
     let both = append-passed (header_trials f h) (sample_trials f h) e in
     let rest = trial (eqb h.width.at 2) (NoSpace 2) ∷ numbers_trials h in
@@ -123,17 +120,17 @@ passed-lies f h e =
       inside = omega (arith, here, room);
     }
 
-pub passed-sized : (f : List ℕ) (h : Header) → length f ≤ 18446744073709551615 → first_fault (picture_trials f h) ≡ Passed → Sized h
+pub passed-sized : (f : List ℕ) (h : Header) → length f ≤ 18446744073709551615 → first_fault (picture_trials f h) ≡ Ok tt → Sized h
 passed-sized f h l e =
     let p = passed-lies f h e in
     record { width_small = p.width_small; height-small = p.height-small; end-small = omega (arith, p.inside, l) }
 
-answer-passed : (c : Check) (q p : Picture) → answer_of c q ≡ Found p → (c ≡ Passed) × (q ≡ p)
-answer-passed Passed q p e = (refl, cc)
-answer-passed (Failed x) q p e = let z : ◌≡◌ {A = ℕ} 0 1 = cc in absurd (omega arith)
+answer-passed : (c : (Result ⊤ PictureFault)) (q p : Picture) → answer_of c q ≡ Ok p → (c ≡ Ok tt) × (q ≡ p)
+answer-passed (Ok tt) q p e = (refl, cc)
+answer-passed (Err x) q p e = let z : ◌≡◌ {A = ℕ} 0 1 = cc in absurd (omega arith)
 
 -- a picture that was found lies in its file
-pub found-lies : (f : List ℕ) (p : Picture) → picture_answer f ≡ Found p → Lies f p
+pub found-lies : (f : List ℕ) (p : Picture) → picture_answer f ≡ Ok p → Lies f p
 found-lies f p e =
     let both = answer-passed (first_fault (picture_trials f (header_in f))) (picture_of (header_in f)) p e in
     subst (λ q. Lies f q) both.1 (passed-lies f (header_in f) both.0)
@@ -141,32 +138,32 @@ found-lies f p e =
 -- ---- the whole file
 
 module _ (f : List ℕ) (h : Header) where
-  no-space : is_white (get_or f h.maxval.end 0) ≡ false → Failed (NoSpace h.maxval.end) ≡ first_fault (sample_trials f h)
+  no-space : is_white (get_or f h.maxval.end 0) ≡ false → Err (NoSpace h.maxval.end) ≡ first_fault (sample_trials f h)
   no-space e = rw e
 
-  pub samples-no-space : (b : Bool) → b ≡ is_white (get_or f h.maxval.end 0) → b ≡ false → Failed (NoSpace h.maxval.end) ≡ first_fault (sample_trials f h)
+  pub samples-no-space : (b : Bool) → b ≡ is_white (get_or f h.maxval.end 0) → b ≡ false → Err (NoSpace h.maxval.end) ≡ first_fault (sample_trials f h)
   samples-no-space b e g = no-space (sym e ∙ g)
 
-  pub samples-ended : length f ≤ h.maxval.end → Failed (NoSpace h.maxval.end) ≡ first_fault (sample_trials f h)
+  pub samples-ended : length f ≤ h.maxval.end → Err (NoSpace h.maxval.end) ≡ first_fault (sample_trials f h)
   samples-ended l = no-space (ap is_white (get_or-eq_default f 0 l))
 
-  pub samples-raster : (b : Bool) (n : ℕ) (r : Check) → b ≡ is_white (get_or f h.maxval.end 0) → b ≡ true → n ≡ area h
+  pub samples-raster : (b : Bool) (n : ℕ) (r : (Result ⊤ PictureFault)) → b ≡ is_white (get_or f h.maxval.end 0) → b ≡ true → n ≡ area h
       → r ≡ first_fault (raster_trials f (h.maxval.end + 1) n h.maxval.value) → r ≡ first_fault (sample_trials f h)
   samples-raster b n r e g a x =
       let w : is_white (get_or f h.maxval.end 0) ≡ true = sym e ∙ g in
       x ∙ ap (λ (k : ℕ). first_fault (raster_trials f (h.maxval.end + 1) k h.maxval.value)) a ∙ rw w
 
-  pub all-checked : (a b r : Check) → a ≡ first_fault (header_trials f h) → b ≡ first_fault (sample_trials f h) → r ≡ first_of a b
+  pub all-checked : (a b r : (Result ⊤ PictureFault)) → a ≡ first_fault (header_trials f h) → b ≡ first_fault (sample_trials f h) → r ≡ first_of a b
       → r ≡ first_fault (picture_trials f h)
   all-checked a b r ea eb er = er ∙ ap₂ first_of ea eb ∙ sym (first-append (header_trials f h) (sample_trials f h))
 
-  pub answered : (r : Check) (p : Picture) (a : PictureAnswer) → h ≡ header_in f → r ≡ first_fault (picture_trials f h) → p ≡ picture_of h → a ≡ answer_of r p
+  pub answered : (r : (Result ⊤ PictureFault)) (p : Picture) (a : (Result Picture PictureFault)) → h ≡ header_in f → r ≡ first_fault (picture_trials f h) → p ≡ picture_of h → a ≡ answer_of r p
       → a ≡ picture_answer f
   answered r p a eh er ep ea =
       ea ∙ ap₂ answer_of er ep ∙ ap (λ (k : Header). answer_of (first_fault (picture_trials f k)) (picture_of k)) eh
 
-  pub faulty : (r : Check) (x : PictureFault) → h ≡ header_in f → r ≡ first_fault (picture_trials f h) → r ≡ Failed x → Faulty x ≡ picture_answer f
-  faulty r x eh er e = answered r (picture_of h) (Faulty x) eh er refl (sym (ap (λ (k : Check). answer_of k (picture_of h)) e))
+  pub faulty : (r : (Result ⊤ PictureFault)) (x : PictureFault) → h ≡ header_in f → r ≡ first_fault (picture_trials f h) → r ≡ Err x → Err x ≡ picture_answer f
+  faulty r x eh er e = answered r (picture_of h) (Err x) eh er refl (sym (ap (λ (k : (Result ⊤ PictureFault)). answer_of k (picture_of h)) e))
 
 pub header_read : (f : List ℕ) (a b c : Number) → a ≡ number_after f 2 → b ≡ number_after f a.end → c ≡ number_after f b.end
     → record { width = a; height = b; maxval = c } ≡ header_in f
@@ -180,13 +177,13 @@ pub record Proper (most : ℕ) (n : Number) : Type 0 where
   pub least : 1 ≤ n.value
   pub within : n.value ≤ most
 
-number_passed : (q : Quantity) (most : ℕ) (n : Number) → Proper most n → first_fault (number_trials q most n) ≡ Passed
+number_passed : (q : Quantity) (most : ℕ) (n : Number) → Proper most n → first_fault (number_trials q most n) ≡ Ok tt
 number_passed q most n p = rw (ne_eqb n.end n.at p.some, le-leb 1 n.value p.least, le-leb n.value most p.within)
 
 numbers-passed : (h : Header) → Proper largest_side h.width → Proper largest_side h.height → Proper largest_sample h.maxval
-    → first_fault (numbers_trials h) ≡ Passed
+    → first_fault (numbers_trials h) ≡ Ok tt
 numbers-passed h w y m =
-    sym (numbers-checked h Passed Passed Passed Passed Passed (sym (number_passed Width largest_side h.width w))
+    sym (numbers-checked h (Ok tt) (Ok tt) (Ok tt) (Ok tt) (Ok tt) (sym (number_passed Width largest_side h.width w))
     (sym (number_passed Height largest_side h.height y)) refl (sym (number_passed Maxval largest_sample h.maxval m)) refl)
 
 -- a file whose header and samples are right
@@ -200,19 +197,19 @@ pub record Right (f : List ℕ) (h : Header) : Type 0 where
   pub enough : area h ≤ length f - first_sample h
   pub small : count_within h.maxval.value (take (area h) (drop (first_sample h) f)) ≡ area h
 
-header-passed : (f : List ℕ) (h : Header) → Right f h → first_fault (header_trials f h) ≡ Passed
+header-passed : (f : List ℕ) (h : Header) → Right f h → first_fault (header_trials f h) ≡ Ok tt
 header-passed f h r =
     let spaced = ne_eqb h.width.at 2 r.spaced in
     let numbers = numbers-passed h r.width-right r.height-right r.maxval-right in
     rw (r.opened, spaced) numbers
 
-samples-passed : (f : List ℕ) (h : Header) → Right f h → first_fault (sample_trials f h) ≡ Passed
+samples-passed : (f : List ℕ) (h : Header) → Right f h → first_fault (sample_trials f h) ≡ Ok tt
 samples-passed f h r =
     let z : first_sample h + area h - first_sample h ≡ area h = omega arith in
     let n : area h ≡ count_within h.maxval.value (take (first_sample h + area h - first_sample h) (drop (first_sample h) f)) =
     sym (ap (λ (k : ℕ). count_within h.maxval.value (take k (drop (first_sample h) f))) z ∙ r.small) in
-    sym (samples-raster f h true (area h) Passed (sym r.white) refl refl
+    sym (samples-raster f h true (area h) (Ok tt) (sym r.white) refl refl
     (raster-passed f (first_sample h) (area h) h.maxval.value (area h) r.enough n (omega arith)))
 
-pub right-passed : (f : List ℕ) (h : Header) → Right f h → first_fault (picture_trials f h) ≡ Passed
-right-passed f h r = sym (all-checked f h Passed Passed Passed (sym (header-passed f h r)) (sym (samples-passed f h r)) refl)
+pub right-passed : (f : List ℕ) (h : Header) → Right f h → first_fault (picture_trials f h) ≡ Ok tt
+right-passed f h r = sym (all-checked f h (Ok tt) (Ok tt) (Ok tt) (sym (header-passed f h r)) (sym (samples-passed f h r)) refl)

@@ -1,5 +1,5 @@
 -- To be believed: a PGM picture, a byte for each sample: what its header says, where its samples stand, and its first fault.
-use Rattle.std.specs.Prelude.{Bool, true, false, cond, not, List, [], ◌∷◌, ◌++◌, ℕ, suc, ◌+◌, ◌-◌, ◌*◌, min, eqb, ltb, leb, length, take, drop, get_or}
+use Rattle.std.specs.Prelude.{Bool, true, false, cond, not, List, [], ◌∷◌, ◌++◌, ℕ, suc, ◌+◌, ◌-◌, ◌*◌, min, eqb, ltb, leb, length, take, drop, get_or, Result, Ok, Err, ⊤}
 use Rattle.refusal.specs.Refusals.{largest_side}
 use Rattle.decimal.specs.Decimal.{is_digit}
 use Rattle.pgm.specs.declared.Number.{Number}
@@ -9,10 +9,6 @@ use Rattle.pgm.specs.declared.Quantity.{Quantity}
 use Rattle.pgm.specs.declared.Quantity.TheVariants.{Width, Height, Maxval}
 use Rattle.pgm.specs.declared.PictureFault.{PictureFault}
 use Rattle.pgm.specs.declared.PictureFault.TheVariants.{NotPgm, NoSpace, NoNumber, OutOfRange, Short, BadSample}
-use Rattle.pgm.specs.declared.Check.{Check}
-use Rattle.pgm.specs.declared.Check.TheVariants.{Passed, Failed}
-use Rattle.pgm.specs.declared.PictureAnswer.{PictureAnswer}
-use Rattle.pgm.specs.declared.PictureAnswer.TheVariants.{Found, Faulty}
 
 -- ---- whitespace and comments
 
@@ -106,9 +102,9 @@ pub record Trial : Type 0 where
 abbrev pub trial : Bool → PictureFault → Trial
 trial b x = record { met = b; fault = x }
 
-abbrev pub first_fault : List Trial → Check
-first_fault [] = Passed
-first_fault (t ∷ more) = cond t.met (Failed t.fault) (first_fault more)
+abbrev pub first_fault : List Trial → Result ⊤ PictureFault
+first_fault [] = Ok tt
+first_fault (t ∷ more) = cond t.met (Err t.fault) (first_fault more)
 
 -- from 1 to the most
 abbrev pub in_range : ℕ → ℕ → Bool
@@ -155,10 +151,10 @@ picture_trials f h = header_trials f h ++ sample_trials f h
 abbrev pub picture_of : Header → Picture
 picture_of h = record { width = h.width.value; height = h.height.value; at = first_sample h }
 
-abbrev pub answer_of : Check → Picture → PictureAnswer
-answer_of Passed p = Found p
-answer_of (Failed x) p = Faulty x
+abbrev pub answer_of : Result ⊤ PictureFault → Picture → Result Picture PictureFault
+answer_of (Ok tt) p = Ok p
+answer_of (Err x) p = Err x
 
 -- the picture of a file, or its first fault
-abbrev pub picture_answer : List ℕ → PictureAnswer
+abbrev pub picture_answer : List ℕ → Result Picture PictureFault
 picture_answer f = answer_of (first_fault (picture_trials f (header_in f))) (picture_of (header_in f))

@@ -1,15 +1,14 @@
 -- Serves proofs: one check after another, a header whose numbers have room in a picture, and a picture that lies in its file.
-use Rattle.std.specs.Prelude.{List, ℕ, ◌+◌, ◌*◌, ◌≤◌, ◌<◌, length}
+use Rattle.std.specs.Prelude.{List, ℕ, ◌+◌, ◌*◌, ◌≤◌, ◌<◌, length, Result, Ok, Err, ⊤}
 use Rattle.refusal.specs.Refusals.{largest_side}
 use Rattle.pgm.specs.declared.Header.{Header}
 use Rattle.pgm.specs.declared.Picture.{Picture}
-use Rattle.pgm.specs.declared.Check.{Check}
-use Rattle.pgm.specs.declared.Check.TheVariants.{Passed, Failed}
+use Rattle.pgm.specs.declared.PictureFault.{PictureFault}
 
 -- the first fault of two checks
-abbrev pub first_of : Check → Check → Check
-first_of Passed b = b
-first_of (Failed x) b = Failed x
+abbrev pub first_of : Result ⊤ PictureFault → Result ⊤ PictureFault → Result ⊤ PictureFault
+first_of (Ok tt) b = b
+first_of (Err x) b = Err x
 
 pub record Sized (h : Header) : Type 0 where
   pub width_small : h.width.value ≤ largest_side

@@ -39,12 +39,6 @@ pub struct Picture {
     pub at: usize,
 }
 
-#[derive(Clone, Copy)]
-pub enum PictureAnswer {
-    Found(Picture),
-    Faulty(PictureFault),
-}
-
 // A number in the header: its first digit's place, its value, the place behind its digits. With no digits both places are one.
 #[derive(Clone, Copy)]
 pub struct Number {
@@ -58,12 +52,6 @@ pub struct Header {
     pub width: Number,
     pub height: Number,
     pub maxval: Number,
-}
-
-#[derive(Clone, Copy)]
-pub enum Check {
-    Passed,
-    Failed(PictureFault),
 }
 
 pub const LARGEST_SIDE: u32 = refusal::LARGEST_SIDE as u32;
@@ -184,12 +172,12 @@ fn header_of(file: &[u8]) -> Header
 
 // ---- checks
 
-fn first_of(a: Check, b: Check) -> Check
+fn first_of(a: Result<(), PictureFault>, b: Result<(), PictureFault>) -> Result<(), PictureFault>
     ensures { result ≡ first_of a b }
 {
     match a {
-        Check::Passed => b,
-        Check::Failed(fault) => Check::Failed(fault),
+        Ok(()) => b,
+        Err(fault) => Err(fault),
     }
 }
 
@@ -199,16 +187,16 @@ fn in_range(most: u32, n: u32) -> bool
     if 1 <= n { n <= most } else { false }
 }
 
-fn check_number(n: Number, quantity: Quantity, most: u32) -> Check
+fn check_number(n: Number, quantity: Quantity, most: u32) -> Result<(), PictureFault>
     ensures { result ≡ first_fault (number_trials quantity most n) }
 {
     if n.end == n.at {
-        return Check::Failed(PictureFault::NoNumber(quantity, n.at));
+        return Err(PictureFault::NoNumber(quantity, n.at));
     }
     if in_range(most, n.value) {
-        return Check::Passed;
+        return Ok(());
     }
-    Check::Failed(PictureFault::OutOfRange(quantity, n.at, n.value))
+    Err(PictureFault::OutOfRange(quantity, n.at, n.value))
 }
 
 fn opens(file: &[u8]) -> bool
@@ -221,7 +209,7 @@ fn opens(file: &[u8]) -> bool
     }
 }
 
-fn check_numbers(header: Header) -> Check
+fn check_numbers(header: Header) -> Result<(), PictureFault>
     ensures { result ≡ first_fault (numbers_trials header) }
 {
     let width = check_number(header.width, Quantity::Width, LARGEST_SIDE);
@@ -230,14 +218,14 @@ fn check_numbers(header: Header) -> Check
     first_of(first_of(width, height), maxval)
 }
 
-fn check_header(file: &[u8], header: Header) -> Check
+fn check_header(file: &[u8], header: Header) -> Result<(), PictureFault>
     ensures { result ≡ first_fault (header_trials file.now header) }
 {
     if !opens(file) {
-        return Check::Failed(PictureFault::NotPgm);
+        return Err(PictureFault::NotPgm);
     }
     if header.width.at == 2 {
-        return Check::Failed(PictureFault::NoSpace(2));
+        return Err(PictureFault::NoSpace(2));
     }
     check_numbers(header)
 }
@@ -263,30 +251,30 @@ fn count_within(samples: &[u8], most: u32) -> usize
 }
 
 // The samples, from a place in the file on.
-fn check_raster(file: &[u8], first: usize, needed: usize, most: u32) -> Check
+fn check_raster(file: &[u8], first: usize, needed: usize, most: u32) -> Result<(), PictureFault>
     requires { first ≤ length file.now }
     ensures { result ≡ first_fault (raster_trials file.now first needed most) }
 {
     let left = file.len() - first;
     if left < needed {
-        return Check::Failed(PictureFault::Short(left, needed));
+        return Err(PictureFault::Short(left, needed));
     }
     let n = count_within(&file[first..first + needed], most);
     if n < needed {
-        return Check::Failed(PictureFault::BadSample(first + n, file[first + n], most));
+        return Err(PictureFault::BadSample(first + n, file[first + n], most));
     }
-    Check::Passed
+    Ok(())
 }
 
-fn check_samples(file: &[u8], header: Header) -> Check
+fn check_samples(file: &[u8], header: Header) -> Result<(), PictureFault>
     ensures { result ≡ first_fault (sample_trials file.now header) }
 {
     let end = header.maxval.end;
     if file.len() <= end {
-        return Check::Failed(PictureFault::NoSpace(end));
+        return Err(PictureFault::NoSpace(end));
     }
     if !is_white(file[end]) {
-        return Check::Failed(PictureFault::NoSpace(end));
+        return Err(PictureFault::NoSpace(end));
     }
     check_raster(file, end + 1, area(header), header.maxval.value)
 }
@@ -305,13 +293,10 @@ fn picture_of(header: Header) -> Picture
 }
 
 // The picture of a file, or its first fault.
-pub fn read_picture(file: &[u8]) -> PictureAnswer
+pub fn read_picture(file: &[u8]) -> Result<Picture, PictureFault>
     ensures { result ≡ picture_answer file.now }
 {
     let header = header_of(file);
-    let check = first_of(check_header(file, header), check_samples(file, header));
-    match check {
-        Check::Passed => PictureAnswer::Found(picture_of(header)),
-        Check::Failed(fault) => PictureAnswer::Faulty(fault),
-    }
+    first_of(check_header(file, header), check_samples(file, header))?;
+    Ok(picture_of(header))
 }

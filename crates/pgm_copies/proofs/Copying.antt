@@ -1,4 +1,5 @@
 -- Laws of bytes put at the start of a buffer: a scan of a picture, a picture of depths.
+use Rattle.std.specs.Prelude.{Result, Ok, Err}
 use mathlib.Core.Path.{◌≡◌, refl, sym, ap, subst, ◌∙◌}
 use mathlib.Core.List.{List, [], ◌∷◌, ◌++◌}
 use Prim.Native.Nat.{ℕ, ◌+◌, ◌-◌, ◌*◌, ◌≤◌, ◌<◌}
@@ -12,8 +13,6 @@ use Rattle.phrases.specs.Phrases.{Appends}
 use Rattle.phrases.proofs.Appends.{appends-appends, appends-puts}
 use Rattle.pgm.specs.declared.Picture.{Picture}
 use Rattle.pgm.specs.declared.PictureFault.{PictureFault}
-use Rattle.pgm.specs.declared.PictureAnswer.{PictureAnswer}
-use Rattle.pgm.specs.declared.PictureAnswer.TheVariants.{Found, Faulty}
 use Rattle.pgm_copies.specs.declared.CopyAnswer.{CopyAnswer}
 use Rattle.pgm_copies.specs.declared.CopyAnswer.TheVariants.{Copied, NoRoom, TooFew, Unread}
 use Rattle.pgm.specs.Pgm.{picture_answer}
@@ -57,11 +56,11 @@ module _ (f : List ℕ) (kind : ℕ) (p : Picture) (i : Lies f p) where
 
 -- by what reading gave
 module _ (f : List ℕ) (kind : ℕ) (old : List ℕ) where
-  pub scan-found : (new : List ℕ) (a : PictureAnswer) (p : Picture) (r : CopyAnswer) → a ≡ picture_answer f → a ≡ Found p
+  pub scan-found : (new : List ℕ) (a : (Result Picture PictureFault)) (p : Picture) (r : CopyAnswer) → a ≡ picture_answer f → a ≡ Ok p
       → Copies (copy_answer (scan_of f kind p) old) (copied (scan_of f kind p) old) new r → Copies (scan_answer f kind old) (scan_written f kind old) new r
   scan-found new a p r e g c = subst (λ x. Copies (scan_answer_of f kind x old) (scan_written_of f kind x old) new r) (sym g ∙ e) c
 
-  pub scan-faulty : (a : PictureAnswer) (x : PictureFault) → a ≡ picture_answer f → a ≡ Faulty x
+  pub scan-faulty : (a : (Result Picture PictureFault)) (x : PictureFault) → a ≡ picture_answer f → a ≡ Err x
       → Copies (scan_answer f kind old) (scan_written f kind old) old (Unread x)
   scan-faulty a x e g =
       subst (λ y. Copies (scan_answer_of f kind y old) (scan_written_of f kind y old) old (Unread x)) (sym g ∙ e) (record { answers = refl; writes = refl })

@@ -1,4 +1,5 @@
 -- What was written is read again: a picture's file made of depths has their width and height, and its samples are the depths.
+use Rattle.std.specs.Prelude.{Ok}
 use mathlib.Core.Path.{◌≡◌, refl, sym, ap, ◌∙◌}
 use mathlib.Core.Bool.{true, false}
 use mathlib.Core.List.{List, [], ◌∷◌, ◌++◌, append_assoc}
@@ -17,7 +18,6 @@ use Rattle.decimal_text.proofs.RoundTrip.{digit-first, digit-rest, text-digits, 
 use Rattle.refusal.specs.Refusals.{largest_side}
 use Rattle.pgm.specs.declared.Header.{Header}
 use Rattle.pgm.specs.declared.Picture.{Picture}
-use Rattle.pgm.specs.declared.PictureAnswer.TheVariants.{Found}
 use Rattle.pgm.specs.Pgm.{is_white, in_gap, in_comment, gap, gap_end, digits, largest_number, number_from, number_at, number_after, opens, header_in, count_within, first_fault, picture_trials, picture_of, answer_of, picture_answer}
 use Rattle.pgm_copies.specs.Copies.{header_text, picture_file, scan_of}
 use Rattle.pgm_copies.proofs.Copying.{header-size}
@@ -214,11 +214,11 @@ module _ (w h : ℕ) (d : List ℕ) (w-least : 1 ≤ w) (w-most : w ≤ largest_
   written = record { width = w; height = h; at = length (header_text w h) }
 
   -- the sides come back, and the place behind the header
-  pub round_trip : picture_answer (picture_file w h d) ≡ Found written
+  pub round_trip : picture_answer (picture_file w h d) ≡ Ok written
   round_trip =
       ap (λ (k : Header). answer_of (first_fault (picture_trials (picture_file w h d) k)) (picture_of k)) (header-back w h d sw sh)
       ∙ ap (λ c. answer_of c (picture_of (header w h d sw sh))) (right-passed (picture_file w h d) (header w h d sw sh) file-right)
-      ∙ ap (λ (k : ℕ). Found (record { width = w; height = h; at = k })) (place-back w h d sw sh)
+      ∙ ap (λ (k : ℕ). Ok (record { width = w; height = h; at = k })) (place-back w h d sw sh)
 
   -- and the depths: the scan of the picture is kind, width, height and the depths that were written
   pub scan-round-trip : (kind : ℕ) → scan_of (picture_file w h d) kind written ≡ kind ∷ w ∷ h ∷ take (h * w) d

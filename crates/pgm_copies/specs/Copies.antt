@@ -1,13 +1,12 @@
 -- To be believed: the scan that a picture becomes, and the picture that a scan becomes.
-use Rattle.std.specs.Prelude.{◌≡◌, cond, List, ◌∷◌, ◌++◌, ℕ, ◌*◌, ltb, length, take, drop}
+use Rattle.std.specs.Prelude.{◌≡◌, cond, List, ◌∷◌, ◌++◌, ℕ, ◌*◌, ltb, length, take, drop, Result, Ok, Err}
 use Rattle.numerals.specs.Numerals.{numeral}
 use Rattle.phrases.specs.Phrases.{ascii}
 use Rattle.pgm.specs.declared.Picture.{Picture}
-use Rattle.pgm.specs.declared.PictureAnswer.{PictureAnswer}
-use Rattle.pgm.specs.declared.PictureAnswer.TheVariants.{Found, Faulty}
 use Rattle.pgm_copies.specs.declared.CopyAnswer.{CopyAnswer}
 use Rattle.pgm_copies.specs.declared.CopyAnswer.TheVariants.{Copied, NoRoom, TooFew, Unread}
 use Rattle.pgm.specs.Pgm.{picture_answer}
+use Rattle.pgm.specs.declared.PictureFault.{PictureFault}
 
 -- bytes that are put at the start of a buffer if they have room there; gives their number
 abbrev pub copy_answer : List ℕ → List ℕ → CopyAnswer
@@ -22,13 +21,13 @@ abbrev pub scan_of : List ℕ → ℕ → Picture → List ℕ
 scan_of f kind p = kind ∷ p.width ∷ p.height ∷ take (p.height * p.width) (drop p.at f)
 
 -- by what reading a picture's file f gives
-abbrev pub scan_answer_of : List ℕ → ℕ → PictureAnswer → List ℕ → CopyAnswer
-scan_answer_of f kind (Found p) old = copy_answer (scan_of f kind p) old
-scan_answer_of f kind (Faulty x) old = Unread x
+abbrev pub scan_answer_of : List ℕ → ℕ → Result Picture PictureFault → List ℕ → CopyAnswer
+scan_answer_of f kind (Ok p) old = copy_answer (scan_of f kind p) old
+scan_answer_of f kind (Err x) old = Unread x
 
-abbrev pub scan_written_of : List ℕ → ℕ → PictureAnswer → List ℕ → List ℕ
-scan_written_of f kind (Found p) old = copied (scan_of f kind p) old
-scan_written_of f kind (Faulty x) old = old
+abbrev pub scan_written_of : List ℕ → ℕ → Result Picture PictureFault → List ℕ → List ℕ
+scan_written_of f kind (Ok p) old = copied (scan_of f kind p) old
+scan_written_of f kind (Err x) old = old
 
 -- a picture's file as a scan
 abbrev pub scan_answer : List ℕ → ℕ → List ℕ → CopyAnswer

@@ -7,7 +7,7 @@ ghost use Rattle.phrases.specs.Phrases.{Appends};
 ghost use Rattle.pgm_copies.specs.Copies.{scan_of, copy_answer, copied, header_text, scan_answer, scan_written, file_answer, file_written, Copies};
 ghost use Rattle.pgm.specs.Steps.{Lies};
 
-use pgm::{Picture, PictureAnswer, PictureFault};
+use pgm::{Picture, PictureFault};
 
 // What copying gives: the number of bytes written, the number needed where the buffer is shorter, too few depths, or a picture's fault.
 #[derive(Clone, Copy)]
@@ -45,8 +45,8 @@ pub fn put_scan(file: &[u8], kind: u8, out: &mut [u8]) -> CopyAnswer
 {
     let answer = pgm::read_picture(file);
     match answer {
-        PictureAnswer::Found(picture) => copy_scan(file, kind, picture, out),
-        PictureAnswer::Faulty(fault) => CopyAnswer::Unread(fault),
+        Ok(picture) => copy_scan(file, kind, picture, out),
+        Err(fault) => CopyAnswer::Unread(fault),
     }
 }
 

@@ -1,4 +1,5 @@
 -- Pictures and their answers, computed.
+use Rattle.std.specs.Prelude.{Result, Ok, Err}
 use mathlib.Core.Path.{◌≡◌, refl}
 use mathlib.Core.List.{[], ◌∷◌, map}
 use Prim.Native.Nat.{ℕ}
@@ -6,13 +7,13 @@ use Rattle.numerals.specs.Numerals.{numeral, numeral_within}
 use Rattle.phrases.specs.Phrases.{ascii}
 use Rattle.pgm.specs.declared.Quantity.TheVariants.{Width, Height, Maxval}
 use Rattle.pgm.specs.declared.PictureFault.TheVariants.{NotPgm, NoSpace, NoNumber, OutOfRange, Short, BadSample}
-use Rattle.pgm.specs.declared.PictureAnswer.{PictureAnswer}
-use Rattle.pgm.specs.declared.PictureAnswer.TheVariants.{Found, Faulty}
 use Rattle.pgm.specs.Pgm.{gap, digits, number_from, number_after, count_within, picture_answer}
 use Rattle.pgm_sentences.specs.Texts.{fault_text}
+use Rattle.pgm.specs.declared.Picture.{Picture}
+use Rattle.pgm.specs.declared.PictureFault.{PictureFault}
 
-abbrev picture : ℕ → ℕ → ℕ → PictureAnswer
-picture w h at = Found (record { width = w; height = h; at = at })
+abbrev picture : ℕ → ℕ → ℕ → Result Picture PictureFault
+picture w h at = Ok (record { width = w; height = h; at = at })
 
 -- whitespace and comments in every place; surplus samples; one byte of whitespace and no more behind the largest value
 pub found-pictures :
@@ -30,7 +31,7 @@ pub faulty-pictures :
     ascii "P5\n1 1\n65535\nab" ∷ ascii "P5\n99999999999999999999 1\n255\na" ∷ ascii "P5\n1 1\n255" ∷ ascii "P5\n1 1\n255#a\na" ∷ ascii "P5\n2 2\n255\nabc" ∷
     ascii "P5\n2 1\n97\nab" ∷ []
     )
-    ≡ map Faulty (
+    ≡ map Err (
     NotPgm ∷ NotPgm ∷ NoSpace 2 ∷ NoNumber Width 9 ∷ NoNumber Height 5 ∷ OutOfRange Width 3 300 ∷ OutOfRange Height 5 0 ∷
     OutOfRange Maxval 7 65535 ∷ OutOfRange Width 3 65536 ∷ NoSpace 10 ∷ NoSpace 10 ∷ Short 3 4 ∷
     BadSample 11 98 97 ∷ []

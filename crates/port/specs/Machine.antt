@@ -1,13 +1,12 @@
 -- To be believed: the press port, a machine of eight bytes (document 02, N7): its tables, and one step of it.
-use Rattle.std.specs.Prelude.{Bool, true, false, cond, not, List, [], ◌∷◌, ℕ, ◌+◌, ◌*◌, ◌/◌, ◌%◌, min, eqb, leb, get_or, set}
+use Rattle.std.specs.Prelude.{Bool, true, false, cond, not, List, [], ◌∷◌, ℕ, ◌+◌, ◌*◌, ◌/◌, ◌%◌, min, eqb, leb, get_or, set, Ok, Err}
 use Rattle.geometry.specs.Lists.{any}
-use Rattle.refusal.specs.declared.Verdict.{Verdict}
-use Rattle.refusal.specs.declared.Verdict.TheVariants.{Accepted, Refused}
 use Rattle.refusal.specs.Refusals.{trial, first_met}
 use Rattle.port.specs.declared.Port.{Port}
 use Rattle.port.specs.declared.Input.{Input}
 use Rattle.port.specs.declared.Input.TheVariants.{Write, Event}
 use Rattle.port.specs.declared.PortAnswer.{PortAnswer}
+use Rattle.refusal.specs.Refusals.{Verdict}
 
 -- ---- the eight bytes
 
@@ -142,8 +141,8 @@ after_event p e =
 
 -- a refusal "leaves all eight bytes"
 abbrev pub stepped : Verdict → Port → Port → PortAnswer
-stepped Accepted new old = record { port = new; verdict = Accepted }
-stepped (Refused r) new old = record { port = old; verdict = Refused r }
+stepped (Ok tt) new old = record { port = new; verdict = (Ok tt) }
+stepped (Err r) new old = record { port = old; verdict = Err r }
 
 -- a write of the host; an event of the press
 abbrev pub written : Port → ℕ → ℕ → PortAnswer

@@ -1,8 +1,7 @@
 // The press port: eight bytes that the press maker reads, changed by the host's writes and the press's events.
 #![tactic(auto)]
 
-ghost use Rattle.std.specs.Prelude.{◌≡◌, ◌+◌, ◌<◌, min};
-ghost use Rattle.refusal.specs.declared.Verdict.TheVariants.{Accepted, Refused};
+ghost use Rattle.std.specs.Prelude.{◌≡◌, ◌+◌, ◌<◌, min, Err, Ok};
 ghost use Rattle.port.specs.Machine.{port_bytes, command_byte, largest_count, fresh, status, count, with_byte, with_count};
 ghost use Rattle.port.specs.Machine.{commands, events, turned, written, happened, step};
 ghost use Rattle.port.specs.Turning.{turning};
@@ -170,16 +169,16 @@ fn counted(port: Port) -> Port
 }
 
 fn accepted(port: Port) -> PortAnswer
-    ensures { result ≡ record { port = port; verdict = Accepted } }
+    ensures { result ≡ record { port = port; verdict = (Ok tt) } }
 {
     PortAnswer {
         port,
-        verdict: Verdict::Accepted,
+        verdict: Ok(()),
     }
 }
 
 fn refused(port: Port, number: u8) -> PortAnswer
-    ensures { result ≡ record { port = port; verdict = Refused (record { number = number; place = 0 }) } }
+    ensures { result ≡ record { port = port; verdict = Err (record { number = number; place = 0 }) } }
 {
     PortAnswer {
         port,

@@ -1,4 +1,5 @@
 -- Laws of traces: every list of inputs that bytes can say has one, a run over it is the machine's, and traces follow each other.
+use Rattle.std.specs.Prelude.{Ok}
 use mathlib.Core.Path.{◌≡◌, refl, sym, ap, ◌∙◌}
 use mathlib.Core.List.{List, [], ◌∷◌, ◌++◌}
 use Prim.Native.Nat.{ℕ, zero, suc, ◌+◌, ◌*◌, ◌%◌, ◌≤◌}
@@ -6,7 +7,6 @@ use native.Mathlib.Omega.{arith}
 use lib.ListN.{length, get_or}
 use Rattle.geometry.specs.Lists.{gather}
 use Rattle.theory.proofs.Lists.{All}
-use Rattle.refusal.specs.declared.Verdict.TheVariants.{Accepted}
 use Rattle.refusal.specs.Refusals.{written}
 use Rattle.port.specs.declared.Port.{Port}
 use Rattle.port.specs.declared.Input.{Input}
@@ -68,13 +68,13 @@ trace-there xs h = (trace_of xs, trace-bytes xs h, trace-inputs xs)
 
 -- with room for its answers a run over the trace of a list is accepted, and gives the machine's port and its answers
 pub list-run : (p : Port) (xs : List Input) (old now : List ℕ) (r : PortAnswer) → length xs ≤ length old → TraceRun p (trace_of xs) old now r
-    → (r ≡ record { port = port_after p xs; verdict = Accepted }) × (now ≡ written Accepted (numbers_of (answers p xs)) old)
+    → (r ≡ record { port = port_after p xs; verdict = (Ok tt) }) × (now ≡ written (Ok tt) (numbers_of (answers p xs)) old)
 list-run p xs old now r h run =
     let done = run-accepted p (trace_of xs) old now r run
     (run-verdict p (trace_of xs) old now r run
     ∙ sym (gives_none (length (trace_of xs)) (length old) (omega (arith, trace-length xs)) (omega (arith, trace-length xs, h)))) in (
-      done.0 ∙ ap (λ (l : List Input). record { port = port_after p l; verdict = Accepted }) (trace-inputs xs),
-      done.1 ∙ ap (λ (l : List Input). written Accepted (numbers_of (answers p l)) old) (trace-inputs xs),
+      done.0 ∙ ap (λ (l : List Input). record { port = port_after p l; verdict = (Ok tt) }) (trace-inputs xs),
+      done.1 ∙ ap (λ (l : List Input). written (Ok tt) (numbers_of (answers p l)) old) (trace-inputs xs),
     )
 
 -- ---- one trace behind another
@@ -99,19 +99,19 @@ module _ (p : Port) (t u : List ℕ) (whole : length t % trace_step ≡ 0) where
 
 -- two accepted calls, the second with the port that the first gave back, and one call over both traces: it gives the second's answer,
 -- and the numbers of the first, then of the second
-pub calls-joined : (p : Port) (t u a a' b b' old now : List ℕ) (r s q : PortAnswer) → TraceRun p t a a' r → r.verdict ≡ Accepted
-    → TraceRun r.port u b b' s → s.verdict ≡ Accepted → TraceRun p (t ++ u) old now q → q.verdict ≡ Accepted
-    → (q ≡ s) × (now ≡ written Accepted (numbers_of (answers p (inputs_in t)) ++ numbers_of (answers r.port (inputs_in u))) old)
+pub calls-joined : (p : Port) (t u a a' b b' old now : List ℕ) (r s q : PortAnswer) → TraceRun p t a a' r → r.verdict ≡ Ok tt
+    → TraceRun r.port u b b' s → s.verdict ≡ Ok tt → TraceRun p (t ++ u) old now q → q.verdict ≡ Ok tt
+    → (q ≡ s) × (now ≡ written (Ok tt) (numbers_of (answers p (inputs_in t)) ++ numbers_of (answers r.port (inputs_in u))) old)
 calls-joined p t u a a' b b' old now r s q first r-ok second s-ok both q-ok =
     let whole = run-whole p t a a' r first r-ok in
     let between : r.port ≡ port_after p (inputs_in t) = ap (λ (x : PortAnswer). x.port) (run-accepted p t a a' r first r-ok).0 in
     let later = run-accepted r.port u b b' s second s-ok in
     let all = run-accepted p (t ++ u) old now q both q-ok in (
       all.0
-          ∙ ap (λ (x : Port). record { port = x; verdict = Accepted })
+          ∙ ap (λ (x : Port). record { port = x; verdict = (Ok tt) })
           (append-port p t u whole ∙ ap (λ (x : Port). port_after x (inputs_in u)) (sym between))
           ∙ sym later.0,
       all.1
-          ∙ ap (λ (l : List ℕ). written Accepted l old)
+          ∙ ap (λ (l : List ℕ). written (Ok tt) l old)
           (append-numbers p t u whole ∙ ap (λ (x : Port). numbers_of (answers p (inputs_in t)) ++ numbers_of (answers x (inputs_in u))) (sym between)),
     )

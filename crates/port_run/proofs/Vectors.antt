@@ -1,8 +1,8 @@
 -- Definitions by their values: a trace, its inputs, the numbers and the port that a fresh one gives, and what is said of the room.
+use Rattle.std.specs.Prelude.{Ok, Err}
 use mathlib.Core.Path.{◌≡◌, refl}
 use mathlib.Core.List.{List, [], ◌∷◌}
 use Prim.Native.Nat.{ℕ}
-use Rattle.refusal.specs.declared.Verdict.TheVariants.{Accepted, Refused}
 use Rattle.port.specs.declared.Input.TheVariants.{Write, Event}
 use Rattle.port.specs.Machine.{fresh}
 use Rattle.port_theorems.specs.Runs.{port_after, answers}
@@ -26,7 +26,7 @@ unfolding inputs_in
 its-port = refl
 
 -- an output of five bytes has room, one of four has not; a byte more is a cut input, whatever the room
-pub its-verdicts : (run_verdict trace (0 ∷ 0 ∷ 0 ∷ 0 ∷ 0 ∷ []) ≡ Accepted)
-    × (run_verdict trace (0 ∷ 0 ∷ 0 ∷ 0 ∷ []) ≡ Refused (record { number = 5; place = 5 }))
-    × (run_verdict (0 ∷ trace) [] ≡ Refused (record { number = 6; place = 15 }))
+pub its-verdicts : (run_verdict trace (0 ∷ 0 ∷ 0 ∷ 0 ∷ 0 ∷ []) ≡ Ok tt)
+    × (run_verdict trace (0 ∷ 0 ∷ 0 ∷ 0 ∷ []) ≡ Err (record { number = 5; place = 5 }))
+    × (run_verdict (0 ∷ trace) [] ≡ Err (record { number = 6; place = 15 }))
 its-verdicts = (refl, refl, refl)

@@ -1,6 +1,5 @@
 -- Serves proofs: what running one input and all inputs of a trace ask and leave, and the trace that is made of a list of inputs.
-use Rattle.std.specs.Prelude.{◌≡◌, List, [], ◌∷◌, ℕ, ◌+◌, ◌*◌, ◌≤◌, ◌<◌, length, set}
-use Rattle.refusal.specs.declared.Verdict.TheVariants.{Accepted}
+use Rattle.std.specs.Prelude.{◌≡◌, List, [], ◌∷◌, ℕ, ◌+◌, ◌*◌, ◌≤◌, ◌<◌, length, set, Ok}
 use Rattle.refusal.specs.Refusals.{written}
 use Rattle.port.specs.declared.Port.{Port}
 use Rattle.port.specs.declared.Input.{Input}
@@ -28,7 +27,7 @@ pub record Roomy (t out : List ℕ) : Type 0 where
 -- every whole input is run
 pub record InputsRun (p : Port) (t old now : List ℕ) (after : Port) : Type 0 where
   pub port : after ≡ port_after p (inputs_in t)
-  pub numbers : now ≡ written Accepted (numbers_of (answers p (inputs_in t))) old
+  pub numbers : now ≡ written (Ok tt) (numbers_of (answers p (inputs_in t))) old
 
 -- ---- the trace of a list of inputs
 

@@ -1,8 +1,6 @@
 -- To be believed: a list of writes and events as bytes, what is tried of it, and what a run over it leaves (document 02, N7).
-use Rattle.std.specs.Prelude.{◌≡◌, not, cond, List, [], ◌∷◌, map, ℕ, ◌+◌, ◌*◌, ◌/◌, ◌%◌, eqb, ltb, length, get_or}
+use Rattle.std.specs.Prelude.{◌≡◌, not, cond, List, [], ◌∷◌, map, ℕ, ◌+◌, ◌*◌, ◌/◌, ◌%◌, eqb, ltb, length, get_or, Ok, Err}
 use Rattle.geometry.specs.Lists.{gather}
-use Rattle.refusal.specs.declared.Verdict.{Verdict}
-use Rattle.refusal.specs.declared.Verdict.TheVariants.{Accepted, Refused}
 use Rattle.refusal.specs.Refusals.{Trial, trial, first_met, written}
 use Rattle.port.specs.declared.Port.{Port}
 use Rattle.port.specs.declared.Input.{Input}
@@ -10,6 +8,7 @@ use Rattle.port.specs.declared.Input.TheVariants.{Write, Event}
 use Rattle.port.specs.declared.PortAnswer.{PortAnswer}
 use Rattle.port.specs.Machine.{stepped}
 use Rattle.port_theorems.specs.Runs.{port_after, answers}
+use Rattle.refusal.specs.Refusals.{Verdict}
 
 -- ---- a trace
 
@@ -41,8 +40,8 @@ inputs_in t = gather (input_count (length t)) 0 (λ k. input_at t k ∷ [])
 
 -- 0 for an input that was accepted, else its refusal's number
 abbrev pub number_of : Verdict → ℕ
-number_of Accepted = 0
-number_of (Refused r) = r.number
+number_of (Ok tt) = 0
+number_of (Err r) = r.number
 
 -- a byte for each answer
 abbrev pub numbers_of : List Verdict → List ℕ

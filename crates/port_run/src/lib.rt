@@ -45,8 +45,8 @@ fn number_of(verdict: Verdict) -> u8
     ensures { result ≡ number_of verdict }
 {
     match verdict {
-        Verdict::Accepted => ACCEPTED,
-        Verdict::Refused(r) => r.number,
+        Ok(()) => ACCEPTED,
+        Err(r) => r.number,
     }
 }
 
@@ -61,7 +61,7 @@ fn check_run(bytes: usize, room: usize) -> Verdict
     if room < count {
         return refusal::refuse(5, count);
     }
-    Verdict::Accepted
+    Ok(())
 }
 
 // Runs input number k of a trace: the port after it, and the byte of its answer at place k. The other bytes stay.
@@ -98,15 +98,15 @@ pub fn run(port: Port, trace: &[u8], numbers: &mut [u8]) -> PortAnswer
 {
     let verdict = check_run(trace.len(), numbers.len());
     match verdict {
-        Verdict::Refused(r) => PortAnswer {
+        Err(r) => PortAnswer {
             port,
-            verdict: Verdict::Refused(r),
+            verdict: Err(r),
         },
-        Verdict::Accepted => {
+        Ok(()) => {
             let after = run_inputs(port, trace, numbers);
             PortAnswer {
                 port: after,
-                verdict: Verdict::Accepted,
+                verdict: Ok(()),
             }
         }
     }

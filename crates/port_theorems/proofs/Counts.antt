@@ -1,4 +1,5 @@
 -- The count: a write and a fault keep it, an accepted "done" adds one, and it stops at the largest.
+use Rattle.std.specs.Prelude.{Ok, Err}
 use mathlib.Core.Path.{◌≡◌, refl, sym, subst, ◌∙◌}
 use mathlib.Core.Bool.{Bool, true, false, cond, not, true≢false}
 use mathlib.Core.List.{List, [], ◌∷◌}
@@ -8,8 +9,6 @@ use lib.ListN.{length, get_or, length-set}
 use lib.Seq.{get_or-set_same, get_or-set_other}
 use native.Mathlib.Omega.{arith}
 use borrow.Author.Tests.{leb-false}
-use Rattle.refusal.specs.declared.Verdict.{Verdict}
-use Rattle.refusal.specs.declared.Verdict.TheVariants.{Accepted, Refused}
 use Rattle.refusal.specs.Refusals.{trial, first_met}
 use Rattle.port.specs.declared.Port.{Port}
 use Rattle.port.specs.declared.Input.{Input}
@@ -18,6 +17,7 @@ use Rattle.port.specs.Machine.{status_byte, command_byte, high_byte, low_byte, d
 use Rattle.port.specs.Machine.{with_byte, with_count, commands, events, named, turned, read_only, write_named, after_write, after_event}
 use Rattle.port.specs.Machine.{stepped, written, happened, step}
 use Rattle.port_theorems.specs.Runs.{port_after, answers, accepted_done, dones_accepted, Countable}
+use Rattle.refusal.specs.Refusals.{Verdict}
 
 -- two ports of as many bytes, with the same count
 record Alike (p q : Port) : Type 0 where
@@ -115,8 +115,8 @@ grows p s k = record { after = alike-count q r a ∙ counted-count n p k; well =
     a = alike-with status_byte s q q (omega arith) (same q)
 
 write-not-done : (i v : ℕ) (r : Verdict) → accepted_done (Write i v) r ≡ false
-write-not-done i v Accepted = refl
-write-not-done i v (Refused r) = refl
+write-not-done i v (Ok tt) = refl
+write-not-done i v (Err r) = refl
 
 event-counts : (p : Port) (e : ℕ) → Countable p → Counts p (happened p e).port (cond (accepted_done (Event e) (happened p e).verdict) 1 0)
 event-counts p e k =

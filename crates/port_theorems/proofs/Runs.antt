@@ -1,12 +1,12 @@
 -- Laws of lists of inputs: one list behind another, and calls that follow each other.
 use mathlib.Core.Path.{◌≡◌, refl, ap, ◌∙◌}
 use mathlib.Core.List.{List, [], ◌∷◌, ◌++◌}
-use Rattle.refusal.specs.declared.Verdict.{Verdict}
 use Rattle.port.specs.declared.Port.{Port}
 use Rattle.port.specs.declared.Input.{Input}
 use Rattle.port.specs.declared.PortAnswer.{PortAnswer}
 use Rattle.port.specs.Machine.{step}
 use Rattle.port_theorems.specs.Runs.{port_after, answers, Calls, last_port, verdicts}
+use Rattle.refusal.specs.Refusals.{Verdict}
 
 pub after-append : (p : Port) (xs ys : List Input) → port_after p (xs ++ ys) ≡ port_after (port_after p xs) ys
 after-append p [] ys = refl

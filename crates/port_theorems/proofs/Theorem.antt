@@ -3,7 +3,6 @@ use mathlib.Core.Path.{refl, sym, ap, subst, ◌∙◌}
 use mathlib.Core.List.{List, Memᴰ}
 use Prim.Native.Nat.{◌+◌, min}
 use native.Mathlib.Omega.{arith}
-use Rattle.refusal.specs.declared.Verdict.{Verdict}
 use Rattle.port.specs.declared.Port.{Port}
 use Rattle.port.specs.declared.Input.{Input}
 use Rattle.port.specs.declared.PortAnswer.{PortAnswer}
@@ -12,6 +11,7 @@ use Rattle.port_theorems.specs.Runs.{Calls, dones_accepted, Countable, Ran, stat
 use Rattle.port_theorems.proofs.Runs.{calls-port, calls-each}
 use Rattle.port_theorems.proofs.Counts.{run-counts}
 use Rattle.port_theorems.proofs.Statuses.{run-known}
+use Rattle.refusal.specs.Refusals.{Verdict}
 
 pub from-any : (p : Port) → Countable p → (xs : List Input) (calls : List PortAnswer) → Calls p xs calls → Ran p xs calls
 from-any p c xs calls k =

@@ -1,15 +1,14 @@
 -- To be believed: which writes and events each status of a port accepts. docs/PORT-OTHER.md has the same as a table.
-use Rattle.std.specs.Prelude.{◌≡◌, Bool, true, false, cond, ℕ, ◌+◌, eqb, ltb}
+use Rattle.std.specs.Prelude.{◌≡◌, Bool, true, false, cond, ℕ, ◌+◌, eqb, ltb, Ok, Err}
 use mathlib.Core.List.{Memᴰ}
-use Rattle.refusal.specs.declared.Verdict.{Verdict}
-use Rattle.refusal.specs.declared.Verdict.TheVariants.{Accepted, Refused}
 use Rattle.port.specs.Machine.{command_byte, high_byte, done_event, fault_event, ready, busy, fault, interrupt, write_verdict, event_verdict}
 use Rattle.port_theorems.specs.Runs.{statuses}
+use Rattle.refusal.specs.Refusals.{Verdict}
 
 -- nothing is refused
 abbrev pub is_accepted : Verdict → Bool
-is_accepted Accepted = true
-is_accepted (Refused r) = false
+is_accepted (Ok tt) = true
+is_accepted (Err r) = false
 
 -- a status accepts a write of a value to a byte; an event
 abbrev pub write_accepted : ℕ → ℕ → ℕ → Bool

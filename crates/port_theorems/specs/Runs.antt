@@ -1,13 +1,12 @@
 -- To be believed: lists of writes and events, call after call, and what N7 says of them (document 02).
-use Rattle.std.specs.Prelude.{◌≡◌, Bool, false, cond, ℕ, ◌+◌, ◌<◌, min, eqb, length, get_or}
+use Rattle.std.specs.Prelude.{◌≡◌, Bool, false, cond, ℕ, ◌+◌, ◌<◌, min, eqb, length, get_or, Ok, Err}
 use mathlib.Core.List.{List, [], ◌∷◌, Memᴰ}
-use Rattle.refusal.specs.declared.Verdict.{Verdict}
-use Rattle.refusal.specs.declared.Verdict.TheVariants.{Accepted, Refused}
 use Rattle.port.specs.declared.Port.{Port}
 use Rattle.port.specs.declared.Input.{Input}
 use Rattle.port.specs.declared.Input.TheVariants.{Write, Event}
 use Rattle.port.specs.declared.PortAnswer.{PortAnswer}
 use Rattle.port.specs.Machine.{port_bytes, high_byte, low_byte, done_event, largest_count, ready, busy, fault, interrupt, fresh, status, count, step}
+use Rattle.refusal.specs.Refusals.{Verdict}
 
 -- ---- the machine over a list
 
@@ -42,10 +41,10 @@ verdicts (a ∷ rest) = a.verdict ∷ verdicts rest
 
 -- "the accepted "done" events"
 abbrev pub accepted_done : Input → Verdict → Bool
-accepted_done (Event e) Accepted = eqb e done_event
-accepted_done (Event e) (Refused r) = false
-accepted_done (Write i v) Accepted = false
-accepted_done (Write i v) (Refused r) = false
+accepted_done (Event e) (Ok tt) = eqb e done_event
+accepted_done (Event e) (Err r) = false
+accepted_done (Write i v) (Ok tt) = false
+accepted_done (Write i v) (Err r) = false
 
 abbrev pub dones_accepted : List Input → List Verdict → ℕ
 dones_accepted [] vs = 0

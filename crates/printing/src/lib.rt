@@ -3,7 +3,7 @@
 
 ghost use Rattle.reading.specs.Steps.{JobOf};
 
-use reading::{Job, ReadAnswer};
+use reading::Job;
 use refusal::Refusal;
 
 // The line of a refusal; gives whether all of it was written.
@@ -42,7 +42,7 @@ fn print_job(fd: i32, file: &[u8], job: Job) -> bool
 pub fn print_file(fd: i32, file: &[u8]) -> bool {
     let answer = reading::read(file);
     match answer {
-        ReadAnswer::Readable(job) => print_job(fd, file, job),
-        ReadAnswer::Unreadable(_) => false,
+        Ok(job) => print_job(fd, file, job),
+        Err(_) => false,
     }
 }

@@ -1,4 +1,5 @@
 -- For the calls that read a file first: its faults come before all else, what a readable file's answer says, and where a plunge stands in it.
+use Rattle.std.specs.Prelude.{Ok, Err, Some, None}
 use mathlib.Core.Path.{◌≡◌, refl, sym, ap, ◌∙◌}
 use mathlib.Core.Bool.{Bool, true, false}
 use mathlib.Core.List.{List, ◌++◌}
@@ -13,12 +14,8 @@ use Rattle.geometry.specs.declared.Size.{Size}
 use Rattle.geometry.specs.Sizes.{size_of}
 use Rattle.geometry.specs.Forms.{largest_reach}
 use Rattle.refusal.specs.declared.Refusal.{Refusal}
-use Rattle.refusal.specs.declared.Verdict.{Verdict}
-use Rattle.refusal.specs.declared.Verdict.TheVariants.{Accepted, Refused}
 use Rattle.refusal.specs.Refusals.{Trial, first_met}
 use Rattle.reading.specs.declared.Job.{Job}
-use Rattle.reading.specs.declared.ReadAnswer.TheVariants.{Readable, Unreadable}
-use Rattle.reading.specs.declared.MaybePlunge.TheVariants.{OfPlunge, NoPlunge}
 use Rattle.reading.specs.Reading.{IsReadable, file_trials, head_in, plunge_at, nth_plunge, total, read_answer, read}
 use Rattle.refusal.proofs.Trials.{and_then, first-append, both-accepted}
 use Rattle.reading.proofs.Steps.{wide-ball}
@@ -26,6 +23,7 @@ use Rattle.reading.proofs.Readable.{readable-sound}
 use Rattle.fields.specs.Fields.{plunge_bytes, place}
 use Rattle.fields.proofs.Encoding.{place-next, place-le, place-few}
 use Rattle.reading.specs.Steps.{JobOf, plunge_if}
+use Rattle.refusal.specs.Refusals.{Verdict}
 
 -- ---- the file's faults first
 
@@ -33,24 +31,24 @@ module _ (f : List ℕ) (us : List Trial) where
   pub after-file : IsReadable f → first_met (file_trials f ++ us) ≡ first_met us
   after-file e = first-append (file_trials f) us ∙ ap (λ (v : Verdict). and_then v (first_met us)) e
 
-  pub file-fault : (r : Refusal) → first_met (file_trials f) ≡ Refused r → first_met (file_trials f ++ us) ≡ Refused r
+  pub file-fault : (r : Refusal) → first_met (file_trials f) ≡ Err r → first_met (file_trials f ++ us) ≡ Err r
   file-fault r e = first-append (file_trials f) us ∙ ap (λ (v : Verdict). and_then v (first_met us)) e
 
-  pub file-read : first_met (file_trials f ++ us) ≡ Accepted → IsReadable f
+  pub file-read : first_met (file_trials f ++ us) ≡ Ok tt → IsReadable f
   file-read e = (both-accepted (first_met (file_trials f)) (first_met us) (sym (first-append (file_trials f) us) ∙ e)).0
 
 -- ---- what reading said
 
-pub read-refused : (v : Verdict) (f : List ℕ) (r : Refusal) → Unreadable r ≡ read_answer v f → v ≡ Refused r
-read-refused Accepted f r e = let z : ◌≡◌ {A = ℕ} 0 1 = cc in absurd (omega arith)
-read-refused (Refused q) f r e = ap Refused cc
+pub read-refused : (v : Verdict) (f : List ℕ) (r : Refusal) → Err r ≡ read_answer v f → v ≡ Err r
+read-refused (Ok tt) f r e = let z : ◌≡◌ {A = ℕ} 0 1 = cc in absurd (omega arith)
+read-refused (Err q) f r e = ap Err cc
 
-pub read-accepted : (f : List ℕ) (j : Job) → Readable j ≡ read f → JobOf f j
+pub read-accepted : (f : List ℕ) (j : Job) → Ok j ≡ read f → JobOf f j
 read-accepted f j = go (first_met (file_trials f)) refl
   where
-    go : (v : Verdict) → first_met (file_trials f) ≡ v → Readable j ≡ read_answer v f → JobOf f j
-    go Accepted r e = record { readable = r; head = cc; plunges = cc }
-    go (Refused q) r e = let z : ◌≡◌ {A = ℕ} 0 1 = cc in absurd (omega arith)
+    go : (v : Verdict) → first_met (file_trials f) ≡ v → Ok j ≡ read_answer v f → JobOf f j
+    go (Ok tt) r e = record { readable = r; head = cc; plunges = cc }
+    go (Err q) r e = let z : ◌≡◌ {A = ℕ} 0 1 = cc in absurd (omega arith)
 
 -- a file has more bytes than plunges
 pub total-few : (f : List ℕ) → IsReadable f → total f + 7 ≤ length f
@@ -79,14 +77,14 @@ plunge-asks f i ok h = (
 
 -- a field whose reach is one gives its plunge
 module _ (s : Size) (f : List ℕ) (at : ℕ) (h : (plunge_at s f at).reach.0 ≤ largest_reach) where
-  pub is-plunge : plunge_if s f at ≡ OfPlunge (plunge_at s f at)
+  pub is-plunge : plunge_if s f at ≡ Some (plunge_at s f at)
   is-plunge = rw (le-leb _ _ h)
 
-  pub found-plunge : (q : Plunge) → OfPlunge q ≡ plunge_if s f at → q ≡ plunge_at s f at
-  found-plunge q e = let z : OfPlunge q ≡ OfPlunge (plunge_at s f at) = e ∙ is-plunge in cc
+  pub found-plunge : (q : Plunge) → Some q ≡ plunge_if s f at → q ≡ plunge_at s f at
+  found-plunge q e = let z : Some q ≡ Some (plunge_at s f at) = e ∙ is-plunge in cc
 
-  pub no-plunge : {A : Type 0} → NoPlunge ≡ plunge_if s f at → A
-  no-plunge e = let y : NoPlunge ≡ OfPlunge (plunge_at s f at) = e ∙ is-plunge in let z : ◌≡◌ {A = ℕ} 0 1 = cc in absurd (omega arith)
+  pub no-plunge : {A : Type 0} → None ≡ plunge_if s f at → A
+  no-plunge e = let y : None ≡ Some (plunge_at s f at) = e ∙ is-plunge in let z : ◌≡◌ {A = ℕ} 0 1 = cc in absurd (omega arith)
 
 -- the field of plunge number i, by a head, its size and a place that were found
 pub nth-field : (f : List ℕ) (i : ℕ) (h : Head) (s : Size) (at : ℕ) → h ≡ head_in f → s ≡ size_of h → at ≡ place h i

@@ -1,4 +1,5 @@
 -- Fields as bytes: what a field that opens begins with, and what is read where a field was written.
+use Rattle.std.specs.Prelude.{Some, None, is_none}
 use mathlib.Core.Path.{◌≡◌, refl, sym, ap, ◌∙◌}
 use mathlib.Core.Bool.{Bool, true, false, cond}
 use mathlib.Core.List.{List, [], ◌∷◌, ◌++◌}
@@ -16,9 +17,8 @@ use Rattle.geometry.specs.declared.Plunge.{Plunge}
 use Rattle.geometry.specs.declared.Size.{Size}
 use Rattle.geometry.specs.declared.Size.TheVariants.{Small, Large}
 use Rattle.geometry.specs.Sizes.{size_of}
-use Rattle.geometry.specs.declared.MaybeKind.TheVariants.{OfKind, NoKind}
 use Rattle.geometry.specs.Forms.{kind_byte, kind_of}
-use Rattle.refusal.specs.Refusals.{bad_kind, is_none, kind_named}
+use Rattle.refusal.specs.Refusals.{bad_kind, kind_named}
 use Rattle.fields.specs.Fields.{two, four, head_field, head_field_of, plunge_field, end_field, head_tag, head_size, head_bytes, plunge_bytes, end_bytes, place}
 use Rattle.reading_fields.specs.Openings.{pair_at, opens, number_at}
 use Rattle.reading.specs.Reading.{size_in, head_as, head_in, is_plunge, plunge_at, is_end}
@@ -68,8 +68,8 @@ module _ (f : List ℕ) where
 cond-kind : (k : ℕ) → bad_kind k ≡ false → kind_byte (kind_named (kind_of k)) ≡ k
 cond-kind k = go (eqb k 4) (eqb k 8) refl refl
   where
-    go : (x y : Bool) → eqb k 4 ≡ x → eqb k 8 ≡ y → is_none (cond x (OfKind Diamond) (cond y (OfKind Square) NoKind)) ≡ false
-        → kind_byte (kind_named (cond x (OfKind Diamond) (cond y (OfKind Square) NoKind))) ≡ k
+    go : (x y : Bool) → eqb k 4 ≡ x → eqb k 8 ≡ y → is_none (cond x (Some Diamond) (cond y (Some Square) None)) ≡ false
+        → kind_byte (kind_named (cond x (Some Diamond) (cond y (Some Square) None))) ≡ k
     go true y e g n = sym (eqb-true k 4 e)
     go false true e g n = sym (eqb-true k 8 g)
     go false false e g n = let z : ◌≡◌ {A = ℕ} 0 1 = cc in absurd (omega arith)

@@ -1,4 +1,5 @@
 -- What the loop over the fields keeps, and how a field carries it on.
+use Rattle.std.specs.Prelude.{Ok, Err}
 use mathlib.Core.Path.{◌≡◌, refl, sym, ap, ◌∙◌, subst}
 use mathlib.Core.Bool.{Bool, true, false, cond}
 use mathlib.Core.List.{List, []}
@@ -14,12 +15,9 @@ use Rattle.geometry.specs.Plunges.{fits_plate}
 use Rattle.geometry.proofs.Sizes.{small_size}
 use Rattle.refusal.specs.Sides.{Sides}
 use Rattle.refusal.specs.declared.Refusal.{Refusal}
-use Rattle.refusal.specs.declared.Verdict.{Verdict}
-use Rattle.refusal.specs.declared.Verdict.TheVariants.{Accepted, Refused}
 use Rattle.refusal.specs.Refusals.{Trial, first_met, largest_side, head_of}
 use Rattle.reading.specs.declared.Step.{Step}
 use Rattle.reading.specs.declared.Step.TheVariants.{Onward, Ended, Fault}
-use Rattle.reading.specs.declared.ReadAnswer.TheVariants.{Readable, Unreadable}
 use Rattle.reading.specs.Reading.{head_in, is_end, is_plunge, plunge_at, head_trials, plunge_trials, field_trials, fields_from, file_trials, total, read_answer, read}
 use Rattle.reading_fields.specs.Openings.{number_at, end_trials}
 use Rattle.reading.specs.Steps.{step_of, step_at}
@@ -27,14 +25,15 @@ use Rattle.refusal.proofs.Trials.{and_then, first-append}
 use Rattle.reading.proofs.Steps.{head-right, field-right, right-plunge, right_end, contained-plunge, contained-end}
 use Rattle.fields.specs.Fields.{head_bytes, plunge_bytes, place, file_length}
 use Rattle.fields.proofs.Encoding.{place-next, place-few, length-total}
+use Rattle.refusal.specs.Refusals.{Verdict}
 
 -- ---- one field, and those after it
 
 -- the verdict on a field and those after it, by what the field tells
 abbrev pub after_step : Step → Verdict → Verdict
 after_step Onward v = v
-after_step Ended v = Accepted
-after_step (Fault r) v = Refused r
+after_step Ended v = Ok tt
+after_step (Fault r) v = Err r
 
 pub fields-step : (more : ℕ) (p : Head) (f : List ℕ) (n : ℕ)
     → first_met (fields_from (suc more) p f n) ≡ after_step (step_at p f n) (first_met (fields_from more p f (suc n)))
@@ -43,19 +42,19 @@ fields-step more p f n = first-append (field_trials p f n) (cond (is_end f (plac
     (first_met (field_trials p f n)) (fields_from more p f (suc n))
   where
     go : (b : Bool) (v : Verdict) (rest : List Trial) → and_then v (first_met (cond b [] rest)) ≡ after_step (step_of (cond b Ended Onward) v) (first_met rest)
-    go true Accepted rest = refl
-    go false Accepted rest = refl
-    go b (Refused r) rest = refl
+    go true (Ok tt) rest = refl
+    go false (Ok tt) rest = refl
+    go b (Err r) rest = refl
 
-onward-by : (b : Bool) (v : Verdict) → step_of (cond b Ended Onward) v ≡ Onward → (b ≡ false) × (v ≡ Accepted)
-onward-by true Accepted e = let z : ◌≡◌ {A = ℕ} 0 1 = cc in absurd (omega arith)
-onward-by false Accepted e = (refl, refl)
-onward-by b (Refused r) e = let z : ◌≡◌ {A = ℕ} 0 1 = cc in absurd (omega arith)
+onward-by : (b : Bool) (v : Verdict) → step_of (cond b Ended Onward) v ≡ Onward → (b ≡ false) × (v ≡ Ok tt)
+onward-by true (Ok tt) e = let z : ◌≡◌ {A = ℕ} 0 1 = cc in absurd (omega arith)
+onward-by false (Ok tt) e = (refl, refl)
+onward-by b (Err r) e = let z : ◌≡◌ {A = ℕ} 0 1 = cc in absurd (omega arith)
 
-ended_by : (b : Bool) (v : Verdict) → step_of (cond b Ended Onward) v ≡ Ended → (b ≡ true) × (v ≡ Accepted)
-ended_by true Accepted e = (refl, refl)
-ended_by false Accepted e = let z : ◌≡◌ {A = ℕ} 0 1 = cc in absurd (omega arith)
-ended_by b (Refused r) e = let z : ◌≡◌ {A = ℕ} 0 1 = cc in absurd (omega arith)
+ended_by : (b : Bool) (v : Verdict) → step_of (cond b Ended Onward) v ≡ Ended → (b ≡ true) × (v ≡ Ok tt)
+ended_by true (Ok tt) e = (refl, refl)
+ended_by false (Ok tt) e = let z : ◌≡◌ {A = ℕ} 0 1 = cc in absurd (omega arith)
+ended_by b (Err r) e = let z : ◌≡◌ {A = ℕ} 0 1 = cc in absurd (omega arith)
 
 -- what a right plunge's field has
 pub record Passed (p : Head) (f : List ℕ) (n : ℕ) : Type 0 where
@@ -123,19 +122,19 @@ module _ (p : Head) (f : List ℕ) (n : ℕ) (r : Reading p f n) where
             ∙ answered;
       }
 
-  pub stopped : p ≡ head_in f → step_at p f n ≡ Ended → Readable (record { head = p; plunges = n }) ≡ read_answer (first_met (fields_from (suc (length f)) p f 0)) f
+  pub stopped : p ≡ head_in f → step_at p f n ≡ Ended → Ok (record { head = p; plunges = n }) ≡ read_answer (first_met (fields_from (suc (length f)) p f 0)) f
   stopped h e =
       let t = whole-total f n ((ended p f n e).whole ∙ ap (λ (o : Head). file_length o n) h) in
-      (λ i. Readable (record { head = h i; plunges = sym t i }))
+      (λ i. Ok (record { head = h i; plunges = sym t i }))
       ∙ ap (λ v. read_answer v f) (ap (λ s. after_step s (first_met (fields_from (length f - n) p f (suc n)))) (sym e) ∙ answered)
 
-  pub faulted : (x : Refusal) → step_at p f n ≡ Fault x → Unreadable x ≡ read_answer (first_met (fields_from (suc (length f)) p f 0)) f
+  pub faulted : (x : Refusal) → step_at p f n ≡ Fault x → Err x ≡ read_answer (first_met (fields_from (suc (length f)) p f 0)) f
   faulted x e = ap (λ v. read_answer v f) (ap (λ s. after_step s (first_met (fields_from (length f - n) p f (suc n)))) (sym e) ∙ answered)
 
 -- ---- the file: its head, then its fields
 
 -- the head made of three bytes of a file
-pub head-is : (f : List ℕ) (h : Head) (x y : ℕ) → first_met (head_trials f) ≡ Accepted → h ≡ head_of (get_or f 3 0) x y → x ≡ get_or f 4 0 → y ≡ get_or f 5 0
+pub head-is : (f : List ℕ) (h : Head) (x y : ℕ) → first_met (head_trials f) ≡ Ok tt → h ≡ head_of (get_or f 3 0) x y → x ≡ get_or f 4 0 → y ≡ get_or f 5 0
     → h ≡ head_in f
 head-is f h x y g e a b =
     e ∙ ap (λ (w : ℕ). head_of (get_or f 3 0) w y) a ∙ ap (λ (w : ℕ). head_of (get_or f 3 0) (get_or f 4 0) w) b ∙ sym (head-right f g).head
@@ -144,23 +143,23 @@ head-is f h x y g e a b =
 pub small-head : (f : List ℕ) → Sides (head_in f) → size_of (head_in f) ≡ Small
 small-head f s = small_size (head_in f) s.narrow s.low
 
-pub head-begins : (f : List ℕ) (h : Head) → h ≡ head_in f → first_met (head_trials f) ≡ Accepted → place h 0 ≤ length f
+pub head-begins : (f : List ℕ) (h : Head) → h ≡ head_in f → first_met (head_trials f) ≡ Ok tt → place h 0 ≤ length f
 head-begins f h e g =
     let r = head-right f g in
     subst (λ (o : Head). place o 0 ≤ length f) (sym e)
     (subst (λ (s : Size). head_bytes s + plunge_bytes s * 0 ≤ length f) (sym (small-head f r.sides)) r.room)
 
-pub head-narrow : (f : List ℕ) (h : Head) → h ≡ head_in f → first_met (head_trials f) ≡ Accepted → h.width ≤ largest_side
+pub head-narrow : (f : List ℕ) (h : Head) → h ≡ head_in f → first_met (head_trials f) ≡ Ok tt → h.width ≤ largest_side
 head-narrow f h e g = let s = (head-right f g).sides.narrow in omega (arith, ap (λ o. o.width) e)
 
 pub file-first : (f : List ℕ) → first_met (file_trials f) ≡ and_then (first_met (head_trials f)) (first_met (fields_from (suc (length f)) (head_in f) f 0))
 unfolding file_trials
 file-first f = first-append (head_trials f) (fields_from (suc (length f)) (head_in f) f 0)
 
-pub read-on : (f : List ℕ) (h : Head) → h ≡ head_in f → first_met (head_trials f) ≡ Accepted → read_answer (first_met (fields_from (suc (length f)) h f 0)) f ≡ read f
+pub read-on : (f : List ℕ) (h : Head) → h ≡ head_in f → first_met (head_trials f) ≡ Ok tt → read_answer (first_met (fields_from (suc (length f)) h f 0)) f ≡ read f
 read-on f h g e =
     ap (λ o. read_answer (first_met (fields_from (suc (length f)) o f 0)) f) g
     ∙ ap (λ v. read_answer v f) (ap (λ v. and_then v (first_met (fields_from (suc (length f)) (head_in f) f 0))) (sym e) ∙ sym (file-first f))
 
-pub read-fault : (f : List ℕ) (x : Refusal) → first_met (head_trials f) ≡ Refused x → Unreadable x ≡ read f
+pub read-fault : (f : List ℕ) (x : Refusal) → first_met (head_trials f) ≡ Err x → Err x ≡ read f
 read-fault f x e = ap (λ v. read_answer v f) (ap (λ v. and_then v (first_met (fields_from (suc (length f)) (head_in f) f 0))) (sym e) ∙ sym (file-first f))

@@ -1,4 +1,5 @@
 -- Laws of readable files: what they have, that their bytes are those of their head and plunges, and that what is written is read back.
+use Rattle.std.specs.Prelude.{Ok}
 use mathlib.Core.Path.{◌≡◌, refl, sym, ap, ◌∙◌, subst}
 use mathlib.Core.Bool.{true, false}
 use mathlib.Core.List.Memᴰ
@@ -20,13 +21,11 @@ use Rattle.geometry.specs.Forms.{kind_byte}
 use Rattle.geometry.specs.Plunges.{fits_plate}
 use Rattle.geometry.proofs.Sizes.{small_size}
 use Rattle.theory.proofs.Lists.{gather-out, length-each}
-use Rattle.refusal.specs.declared.Verdict.TheVariants.{Accepted}
 use Rattle.refusal.specs.Refusals.{first_met, largest_side, bad_sides}
 use Rattle.fields.specs.Fields.{head_field, head_field_of, plunge_field, plunge_fields, end_field, file_length, encoded, plunge_bytes, end_bytes, place}
 use Rattle.fields.proofs.Encoding.{field-length, head-length, bytes-none, place-next, place-le, place-few, encoded-length, encoded-parts}
 use Rattle.reading.specs.declared.Step.{Step}
 use Rattle.reading.specs.declared.Step.TheVariants.{Onward, Ended, Fault}
-use Rattle.reading.specs.declared.ReadAnswer.TheVariants.{Readable}
 use Rattle.reading.specs.Reading.{head_in, is_plunge, is_end, plunge_at, plate_trials, head_trials, fields_from, IsReadable, total, nth_plunge, plunges_up_to, plunges_in, read_answer, read}
 use Rattle.reading_fields.specs.Openings.{open_trials}
 use Rattle.reading_fields.specs.Either.{plunge_opening, end_opening, opens_either}
@@ -52,13 +51,13 @@ record ReadUpTo (p : Head) (f : List ℕ) (n : ℕ) : Type 0 where
   plunges : (i : ℕ) → n ≤ i → i < last → Passed p f i
   closed : Closed p f last
 
-read_from : (more : ℕ) (p : Head) (f : List ℕ) (n : ℕ) → length f < n + more → place p n ≤ length f → first_met (fields_from more p f n) ≡ Accepted
+read_from : (more : ℕ) (p : Head) (f : List ℕ) (n : ℕ) → length f < n + more → place p n ≤ length f → first_met (fields_from more p f n) ≡ Ok tt
     → ReadUpTo p f n
 read_from zero p f n l h e = absurd (omega (arith, place-few p n))
 read_from (suc more) p f n l h e = go (step_at p f n) refl (sym (fields-step more p f n) ∙ e) (read_from more p f (suc n))
   where
-    go : (s : Step) → step_at p f n ≡ s → after_step s (first_met (fields_from more p f (suc n))) ≡ Accepted
-        → (length f < suc n + more → place p (suc n) ≤ length f → first_met (fields_from more p f (suc n)) ≡ Accepted → ReadUpTo p f (suc n)) → ReadUpTo p f n
+    go : (s : Step) → step_at p f n ≡ s → after_step s (first_met (fields_from more p f (suc n))) ≡ Ok tt
+        → (length f < suc n + more → place p (suc n) ≤ length f → first_met (fields_from more p f (suc n)) ≡ Ok tt → ReadUpTo p f (suc n)) → ReadUpTo p f n
     go Onward g k r =
         let here = onward p f n g in
         let w = r (omega arith) (omega (arith, here.room, place-next p n)) k in
@@ -71,10 +70,10 @@ read_from (suc more) p f n l h e = go (step_at p f n) refl (sym (fields-step mor
     go (Fault x) g k r = absurd (not-refused x k)
 
 -- its head and its fields refuse nothing
-readable-parts : (f : List ℕ) → IsReadable f → (first_met (head_trials f) ≡ Accepted) × (first_met (fields_from (suc (length f)) (head_in f) f 0) ≡ Accepted)
+readable-parts : (f : List ℕ) → IsReadable f → (first_met (head_trials f) ≡ Ok tt) × (first_met (fields_from (suc (length f)) (head_in f) f 0) ≡ Ok tt)
 readable-parts f e = both-accepted (first_met (head_trials f)) (first_met (fields_from (suc (length f)) (head_in f) f 0)) (sym (file-first f) ∙ e)
 
-pub readable-head : (f : List ℕ) → IsReadable f → first_met (head_trials f) ≡ Accepted
+pub readable-head : (f : List ℕ) → IsReadable f → first_met (head_trials f) ≡ Ok tt
 readable-head f e = (readable-parts f e).0
 
 pub readable-checked : (f : List ℕ) → IsReadable f → Checked f (total f)
@@ -220,7 +219,7 @@ encoded-plunges p qs =
 module _ (p : Head) (f : List ℕ) where
   -- a field that stands there whole opens
   opening-right : (n : ℕ) → Contained p f (place p n) → opens_either end_opening (plunge_opening (size_of p)) f (place p n) ≡ true
-      → Accepted ≡ first_met (field_open p f n)
+      → (Ok tt) ≡ first_met (field_open p f n)
   opening-right n h e = open-whole f (place p n) _ _ (omega (arith, h)) (omega (arith, h)) e (omega (arith, h))
 
   step-onward : (n : ℕ) (q : Plunge) → plunge_at (size_of p) f (place p n) ≡ q → is_plunge (size_of p) f (place p n) ≡ true → is_end f (place p n) ≡ false
@@ -228,20 +227,20 @@ module _ (p : Head) (f : List ℕ) where
   step-onward n q is tagged no_end h g d =
       let fits : fits_plate p (plunge_at (size_of p) f (place p n)) ≡ true = ap (fits_plate p) is ∙ g in
       let deep : (plunge_at (size_of p) f (place p n)).depth ≡ q.depth = ap (λ o. o.depth) is in
-      sym (field-content p f n Accepted (opening-right n (rw no_end h) (rw no_end tagged)) refl)
-      ∙ sym (content-plunge p f (place p n) n Accepted no_end (plunge-right p f (place p n) fits (λ z. omega arith)))
+      sym (field-content p f n (Ok tt) (opening-right n (rw no_end h) (rw no_end tagged)) refl)
+      ∙ sym (content-plunge p f (place p n) n (Ok tt) no_end (plunge-right p f (place p n) fits (λ z. omega arith)))
 
   step-ended : (n : ℕ) (rest : List ℕ) → drop (place p n) f ≡ end_field n ++ rest → n < 4294967296 → length f ≡ file_length p n → step_at p f n ≡ Ended
   step-ended n rest e h w =
       let t = written-end f (place p n) n rest e h in
       let room : place p n + end_bytes ≤ length f = omega arith in
-      sym (field-content p f n Accepted (opening-right n (rw t.0 room) (rw t.0)) refl)
-      ∙ sym (content-end p f (place p n) n Accepted t.0 (end-right f (place p n) n t.1 (omega arith)))
+      sym (field-content p f n (Ok tt) (opening-right n (rw t.0 room) (rw t.0)) refl)
+      ∙ sym (content-end p f (place p n) n (Ok tt) t.0 (end-right f (place p n) n t.1 (omega arith)))
 
   -- the fields of a list of right plunges, and the end, refuse nothing
   written_read : (more n m : ℕ) (qs : List Plunge) → drop (place p n) f ≡ plunge_fields (size_of p) qs ++ end_field m → n + length qs ≡ m → m < 4294967296
       → length f ≡ file_length p m
-      → length qs < more → ((q : Plunge) → Memᴰ q qs → (fits_plate p q ≡ true) × (1 ≤ q.depth)) → first_met (fields_from more p f n) ≡ Accepted
+      → length qs < more → ((q : Plunge) → Memᴰ q qs → (fits_plate p q ≡ true) × (1 ≤ q.depth)) → first_met (fields_from more p f n) ≡ Ok tt
   written_read zero n m qs e s h w l r = absurd (omega arith)
   written_read (suc more) n m [] e s h w l r =
       let k : m ≡ n = omega arith in
@@ -262,7 +261,7 @@ module _ (p : Head) (f : List ℕ) where
 sides-good : (w h : ℕ) → 1 ≤ w → w ≤ largest_side → 1 ≤ h → h ≤ largest_side → bad_sides w h ≡ false
 sides-good w h a b c d = rw (le-leb 1 w a, le-leb w largest_side b, le-leb 1 h c, le-leb h largest_side d)
 
-head-written : (p : Head) (rest : List ℕ) → size_of p ≡ Small → bad_sides p.width p.height ≡ false → first_met (head_trials (head_field p ++ rest)) ≡ Accepted
+head-written : (p : Head) (rest : List ℕ) → size_of p ≡ Small → bad_sides p.width p.height ≡ false → first_met (head_trials (head_field p ++ rest)) ≡ Ok tt
 head-written p rest small s =
     let f = head_field_of Small p ++ rest in
     ap (λ (t : Size). first_met (head_trials (head_field_of t p ++ rest))) small
@@ -274,11 +273,11 @@ head-written p rest small s =
 pub encoded-readable : (p : Head) (qs : List Plunge) → Writable p qs → IsReadable (encoded p qs)
 encoded-readable p qs w =
     let f = encoded p qs in
-    let head : first_met (head_trials f) ≡ Accepted =
-    subst (λ l. first_met (head_trials l) ≡ Accepted) (sym (encoded-parts p qs))
+    let head : first_met (head_trials f) ≡ (Ok tt) =
+    subst (λ l. first_met (head_trials l) ≡ Ok tt) (sym (encoded-parts p qs))
     (head-written p (plunge_fields (size_of p) qs ++ end_field (length qs)) (small_size p w.sides.narrow w.sides.low)
     (sides-good p.width p.height w.sides.wide w.sides.narrow w.sides.tall w.sides.low)) in
-    let fields : first_met (fields_from (suc (length f)) p f 0) ≡ Accepted =
+    let fields : first_met (fields_from (suc (length f)) p f 0) ≡ (Ok tt) =
     written_read p f (suc (length f)) 0 (length qs) qs (encoded-fields p qs) (omega arith) w.few (encoded-length p qs)
     (omega (arith, encoded-length p qs, place-few p (length qs))) w.right in
     file-first f
@@ -287,7 +286,7 @@ encoded-readable p qs w =
     ∙ fields
 
 -- reading what is written gives back the head and the number of the plunges
-pub encoded-read : (p : Head) (qs : List Plunge) → Writable p qs → read (encoded p qs) ≡ Readable (record { head = p; plunges = length qs })
+pub encoded-read : (p : Head) (qs : List Plunge) → Writable p qs → read (encoded p qs) ≡ Ok (record { head = p; plunges = length qs })
 encoded-read p qs w =
     ap (λ v. read_answer v (encoded p qs)) (encoded-readable p qs w)
-    ∙ (λ i. Readable (record { head = encoded-head p qs i; plunges = encoded-total p qs i }))
+    ∙ (λ i. Ok (record { head = encoded-head p qs i; plunges = encoded-total p qs i }))

@@ -1,4 +1,5 @@
 -- Laws of one field: what the tests of its opening and its content come to, and what a field that is right has.
+use Rattle.std.specs.Prelude.{Some, None, Ok, Err, Option}
 use mathlib.Core.Path.{◌≡◌, refl, sym, ap, ◌∙◌, subst}
 use mathlib.Core.Bool.{Bool, true, false, cond, not}
 use mathlib.Core.List.{List, [], ◌∷◌}
@@ -14,17 +15,12 @@ use Rattle.geometry.specs.declared.Reach.{Reach}
 use Rattle.geometry.specs.declared.Size.{Size}
 use Rattle.geometry.specs.declared.Size.TheVariants.{Small, Large}
 use Rattle.geometry.specs.Sizes.{size_of}
-use Rattle.geometry.specs.declared.MaybeReach.TheVariants.{OfReach, NoReach}
 use Rattle.geometry.specs.Forms.{largest_reach, reach_of}
 use Rattle.geometry.specs.Plunges.{fits_plate}
 use Rattle.refusal.specs.declared.Refusal.{Refusal}
-use Rattle.refusal.specs.declared.Verdict.{Verdict}
-use Rattle.refusal.specs.declared.Verdict.TheVariants.{Accepted, Refused}
 use Rattle.refusal.specs.Refusals.{Trial, trial, first_met, largest_side, bad_kind, bad_sides, map_trials}
 use Rattle.refusal.proofs.Refusals.{map-sound}
 use Rattle.refusal.proofs.Trials.{and_then, first-append, both-accepted, cond-accepted}
-use Rattle.reading.specs.declared.MaybePlunge.{MaybePlunge}
-use Rattle.reading.specs.declared.MaybePlunge.TheVariants.{OfPlunge, NoPlunge}
 use Rattle.reading.specs.declared.Step.TheVariants.{Onward, Ended, Fault}
 use Rattle.reading_fields.specs.declared.Opening.{Opening}
 use Rattle.reading_fields.specs.Openings.{opens, number_at, open_trials, end_trials}
@@ -34,6 +30,7 @@ use Rattle.reading.specs.Steps.{step_of, right_step, content_step, step_at, plun
 use Rattle.fields.specs.Fields.{opening, head_tag, head_size, head_bytes, plunge_tag, plunge_size, plunge_bytes, end_tag, end_size, end_bytes, place}
 use Rattle.refusal.specs.Sides.{Sides}
 use Rattle.reading_fields.proofs.Openings.{refused, opened, opens-bytes, once}
+use Rattle.refusal.specs.Refusals.{Verdict}
 
 -- ---- the head
 
@@ -52,13 +49,13 @@ module _ (f : List ℕ) (h : Opening) (is : h ≡ head_opening Small) (v : Verdi
   head-open : v ≡ first_met (head_open f)
   head-open = e ∙ ap (λ (o : Opening). first_met (open_trials f 0 (opens_either o o f 0) (size_either o o f 0))) is ∙ once f 0 (head_opening Small)
 
-  pub head-room : v ≡ Accepted → head_bytes Small ≤ length f
+  pub head-room : v ≡ Ok tt → head_bytes Small ≤ length f
   head-room g = let t = opened f 0 (opens (head_tag Small) (head_size Small) f 0) (head_size Small) (sym head-open ∙ g) in omega (arith, t.0)
 
-  pub head-plate : v ≡ Accepted → first_met (head_plate f) ≡ first_met (head_trials f)
+  pub head-plate : v ≡ Ok tt → first_met (head_plate f) ≡ first_met (head_trials f)
   head-plate g = ap (λ u. and_then u (first_met (head_plate f))) (sym g ∙ head-open) ∙ sym (first-append (head_open f) (head_plate f))
 
-  pub head-fault : (r : Refusal) → v ≡ Refused r → Refused r ≡ first_met (head_trials f)
+  pub head-fault : (r : Refusal) → v ≡ Err r → Err r ≡ first_met (head_trials f)
   head-fault r g = ap (λ u. and_then u (first_met (head_plate f))) (sym g ∙ head-open) ∙ sym (first-append (head_open f) (head_plate f))
 
 -- what a right head has
@@ -73,7 +70,7 @@ pub record Plated (f : List ℕ) : Type 0 where
 small-tag : (f : List ℕ) → opens (head_tag Small) (head_size Small) f 0 ≡ true → head_in f ≡ head_as Small f
 small-tag f e = let t = opens-bytes (head_tag Small) (head_size Small) f 0 e in ap (λ (n : ℕ). head_as (cond (eqb n (head_tag Large)) Large Small) f) t.0
 
-pub head-right : (f : List ℕ) → first_met (head_trials f) ≡ Accepted → Plated f
+pub head-right : (f : List ℕ) → first_met (head_trials f) ≡ Ok tt → Plated f
 head-right f e =
     let t = both-accepted (first_met (head_open f)) (first_met (head_plate f)) (sym (first-append (head_open f) (head_plate f)) ∙ e) in
     let o = opened f 0 (opens (head_tag Small) (head_size Small) f 0) (head_size Small) t.0 in
@@ -91,35 +88,35 @@ head-right f e =
 -- ---- the numbers of a plunge
 
 module _ (x y n d : ℕ) where
-  pub plunge-read : (k : Reach) → reach_of n ≡ OfReach k → OfPlunge (record { column = x; row = y; reach = k; depth = d }) ≡ plunge_of x y n d
+  pub plunge-read : (k : Reach) → reach_of n ≡ Some k → Some (record { column = x; row = y; reach = k; depth = d }) ≡ plunge_of x y n d
   plunge-read k = go (leb n largest_reach)
     where
-      go : (b : Bool) → cond b (OfReach (record { 0 = n })) NoReach ≡ OfReach k → OfPlunge (record { column = x; row = y; reach = k; depth = d })
-          ≡ cond b (OfPlunge (record { column = x; row = y; reach = record { 0 = n }; depth = d })) NoPlunge
+      go : (b : Bool) → cond b (Some (record { 0 = n })) None ≡ Some k → Some (record { column = x; row = y; reach = k; depth = d })
+          ≡ cond b (Some (record { column = x; row = y; reach = record { 0 = n }; depth = d })) None
       go true e = let r : record { 0 = n } ≡ k = cc in rw (sym r)
       go false e = let z : ◌≡◌ {A = ℕ} 0 1 = cc in absurd (omega arith)
 
-  pub plunge-none : reach_of n ≡ NoReach → NoPlunge ≡ plunge_of x y n d
+  pub plunge-none : reach_of n ≡ None → None ≡ plunge_of x y n d
   plunge-none = go (leb n largest_reach)
     where
-      go : (b : Bool) → cond b (OfReach (record { 0 = n })) NoReach ≡ NoReach
-          → NoPlunge ≡ cond b (OfPlunge (record { column = x; row = y; reach = record { 0 = n }; depth = d })) NoPlunge
+      go : (b : Bool) → cond b (Some (record { 0 = n })) None ≡ None
+          → None ≡ cond b (Some (record { column = x; row = y; reach = record { 0 = n }; depth = d })) None
       go true e = let z : ◌≡◌ {A = ℕ} 0 1 = cc in absurd (omega arith)
       go false e = refl
 
 module _ (s : Size) (f : List ℕ) (at : ℕ) where
   -- the plunge that was read is the field's; a reach that is none lies above the largest
-  pub read_is : (q : Plunge) → plunge_if s f at ≡ OfPlunge q → q ≡ plunge_at s f at
+  pub read_is : (q : Plunge) → plunge_if s f at ≡ Some q → q ≡ plunge_at s f at
   read_is q = go (leb (plunge_at s f at).reach.0 largest_reach)
     where
-      go : (b : Bool) → cond b (OfPlunge (plunge_at s f at)) NoPlunge ≡ OfPlunge q → q ≡ plunge_at s f at
+      go : (b : Bool) → cond b (Some (plunge_at s f at)) None ≡ Some q → q ≡ plunge_at s f at
       go true e = cc
       go false e = let z : ◌≡◌ {A = ℕ} 0 1 = cc in absurd (omega arith)
 
-  pub none_above : plunge_if s f at ≡ NoPlunge → largest_reach < (plunge_at s f at).reach.0
+  pub none_above : plunge_if s f at ≡ None → largest_reach < (plunge_at s f at).reach.0
   none_above = go (leb (plunge_at s f at).reach.0 largest_reach) refl
     where
-      go : (b : Bool) → leb (plunge_at s f at).reach.0 largest_reach ≡ b → cond b (OfPlunge (plunge_at s f at)) NoPlunge ≡ NoPlunge
+      go : (b : Bool) → leb (plunge_at s f at).reach.0 largest_reach ≡ b → cond b (Some (plunge_at s f at)) None ≡ None
           → largest_reach < (plunge_at s f at).reach.0
       go true g e = let z : ◌≡◌ {A = ℕ} 0 1 = cc in absurd (omega arith)
       go false g e = leb-false _ _ g
@@ -142,7 +139,7 @@ module _ (p : Head) (f : List ℕ) (at : ℕ) where
   here = plunge_at (size_of p) f at
 
   -- the plunge that was read is the field's, so its tests are the field's
-  pub read_here : (m : MaybePlunge) (q : Plunge) (s : Size) → m ≡ plunge_if s f at → s ≡ size_of p → m ≡ OfPlunge q → q ≡ plunge_at (size_of p) f at
+  pub read_here : (m : (Option Plunge)) (q : Plunge) (s : Size) → m ≡ plunge_if s f at → s ≡ size_of p → m ≡ Some q → q ≡ plunge_at (size_of p) f at
   read_here m q s e k g = read_is (size_of p) f at q (ap (λ (t : Size). plunge_if t f at) (sym k) ∙ sym e ∙ g)
 
   pub read_fits : (q : Plunge) (b v : Bool) → q ≡ here → b ≡ fits_plate p q → b ≡ v → fits_plate p here ≡ v
@@ -152,17 +149,17 @@ module _ (p : Head) (f : List ℕ) (at : ℕ) where
   read-depth q is = ap (λ (o : Plunge). o.depth) (sym is)
 
   pub plunge-8 : fits_plate p here ≡ false → refused 8 at ≡ first_met (plunge_trials p f at)
-  plunge-8 e = ap (λ b. cond (not b) (refused 8 at) (cond (eqb here.depth 0) (refused 9 at) Accepted)) (sym e)
+  plunge-8 e = ap (λ b. cond (not b) (refused 8 at) (cond (eqb here.depth 0) (refused 9 at) (Ok tt))) (sym e)
 
   pub plunge-9 : fits_plate p here ≡ true → here.depth ≡ 0 → refused 9 at ≡ first_met (plunge_trials p f at)
   plunge-9 e g =
-      ap (λ b. cond b (refused 9 at) Accepted) (sym (eq-eqb _ _ g))
-      ∙ ap (λ b. cond (not b) (refused 8 at) (cond (eqb here.depth 0) (refused 9 at) Accepted)) (sym e)
+      ap (λ b. cond b (refused 9 at) (Ok tt)) (sym (eq-eqb _ _ g))
+      ∙ ap (λ b. cond (not b) (refused 8 at) (cond (eqb here.depth 0) (refused 9 at) (Ok tt))) (sym e)
 
-  pub plunge-right : fits_plate p here ≡ true → (here.depth ≡ 0 → ⊥) → Accepted ≡ first_met (plunge_trials p f at)
+  pub plunge-right : fits_plate p here ≡ true → (here.depth ≡ 0 → ⊥) → (Ok tt) ≡ first_met (plunge_trials p f at)
   plunge-right e g =
-      ap (λ b. cond b (refused 9 at) Accepted) (sym (ne_eqb _ _ g))
-      ∙ ap (λ b. cond (not b) (refused 8 at) (cond (eqb here.depth 0) (refused 9 at) Accepted)) (sym e)
+      ap (λ b. cond b (refused 9 at) (Ok tt)) (sym (ne_eqb _ _ g))
+      ∙ ap (λ b. cond (not b) (refused 8 at) (cond (eqb here.depth 0) (refused 9 at) (Ok tt))) (sym e)
 
 -- ---- a field
 
@@ -214,20 +211,20 @@ module _ (p : Head) (f : List ℕ) (n : ℕ) where
 
   -- by the verdict on the opening
   module _ (v : Verdict) (o : v ≡ first_met field_open) where
-    pub field-content : v ≡ Accepted → content_step p f (place p n) n ≡ step_at p f n
+    pub field-content : v ≡ Ok tt → content_step p f (place p n) n ≡ step_at p f n
     field-content e = ap (step_of (right_step f (place p n)))
         (ap (λ u. and_then u (first_met field_content)) (sym e ∙ o) ∙ sym (first-append field_open field_content))
 
-    pub field-fault : (r : Refusal) → v ≡ Refused r → Fault r ≡ step_at p f n
+    pub field-fault : (r : Refusal) → v ≡ Err r → Fault r ≡ step_at p f n
     field-fault r e = ap (step_of (right_step f (place p n)))
         (ap (λ u. and_then u (first_met field_content)) (sym e ∙ o) ∙ sym (first-append field_open field_content))
 
-    pub field_room : v ≡ Accepted → Contained p f (place p n)
+    pub field_room : v ≡ Ok tt → Contained p f (place p n)
     field_room e = (opened f (place p n) allowed content (sym o ∙ e)).0
 
   -- a field that refuses nothing has its content, an allowed tag, and a content that refuses nothing
-  pub field-right : first_met (field_trials p f n) ≡ Accepted
-      → Contained p f (place p n) × (allowed ≡ true) × (first_met field_content ≡ Accepted)
+  pub field-right : first_met (field_trials p f n) ≡ Ok tt
+      → Contained p f (place p n) × (allowed ≡ true) × (first_met field_content ≡ Ok tt)
   field-right e =
       let t = both-accepted (first_met field_open) (first_met field_content) (sym (first-append field_open field_content) ∙ e) in
       (field_room (first_met field_open) refl t.0, (opened f (place p n) allowed content t.0).1, t.1)
@@ -249,18 +246,18 @@ module _ (p : Head) (f : List ℕ) (at : ℕ) (h : Contained p f at) where
 
 -- ---- contents that refuse nothing
 
-pub right-plunge : (p : Head) (f : List ℕ) (at : ℕ) → first_met (plunge_trials p f at) ≡ Accepted → (fits_plate p (plunge_at (size_of p) f at) ≡ true)
+pub right-plunge : (p : Head) (f : List ℕ) (at : ℕ) → first_met (plunge_trials p f at) ≡ Ok tt → (fits_plate p (plunge_at (size_of p) f at) ≡ true)
     × (1 ≤ (plunge_at (size_of p) f at).depth)
 right-plunge p f at e =
     let q = plunge_at (size_of p) f at in
     let a = cond-accepted (not (fits_plate p q)) (record { number = 8; place = at }) (first_met (trial (eqb q.depth 0) 9 at ∷ [])) e in
-    let b = cond-accepted (eqb q.depth 0) (record { number = 9; place = at }) Accepted a.1 in
+    let b = cond-accepted (eqb q.depth 0) (record { number = 9; place = at }) (Ok tt) a.1 in
     let d = eqb-false q.depth 0 b.0 in
     (not-false _ a.0, omega arith)
 
-pub right_end : (f : List ℕ) (at n : ℕ) → first_met (end_trials f at n) ≡ Accepted → (number_at f at ≡ n) × (length f ≤ at + end_bytes)
+pub right_end : (f : List ℕ) (at n : ℕ) → first_met (end_trials f at n) ≡ Ok tt → (number_at f at ≡ n) × (length f ≤ at + end_bytes)
 right_end f at n e =
     let a = cond-accepted (not (eqb (number_at f at) n)) (record { number = 10; place = at })
     (first_met (trial (ltb (at + end_bytes) (length f)) 11 (at + end_bytes) ∷ [])) e in
-    let b = cond-accepted (ltb (at + end_bytes) (length f)) (record { number = 11; place = at + end_bytes }) Accepted a.1 in
+    let b = cond-accepted (ltb (at + end_bytes) (length f)) (record { number = 11; place = at + end_bytes }) (Ok tt) a.1 in
     (eqb-true _ _ (not-false _ a.0), ltb-false _ _ b.0)

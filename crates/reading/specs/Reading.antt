@@ -1,5 +1,5 @@
 -- To be believed: reading a plunge file (document 01, "Plunge file, drawing, tidying" and "Refusals in their order"): what is tried, field by field, and what the file says.
-use Rattle.std.specs.Prelude.{◌≡◌, Bool, true, cond, not, List, [], ◌∷◌, ◌++◌, ℕ, zero, suc, ◌+◌, ◌-◌, ◌/◌, eqb, length, get_or}
+use Rattle.std.specs.Prelude.{◌≡◌, Bool, true, cond, not, List, [], ◌∷◌, ◌++◌, ℕ, zero, suc, ◌+◌, ◌-◌, ◌/◌, eqb, length, get_or, Ok, Err, Result}
 use Rattle.geometry.specs.declared.Head.{Head}
 use Rattle.geometry.specs.declared.Plunge.{Plunge}
 use Rattle.geometry.specs.declared.Size.{Size}
@@ -7,13 +7,12 @@ use Rattle.geometry.specs.declared.Size.TheVariants.{Small, Large}
 use Rattle.geometry.specs.Sizes.{size_of}
 use Rattle.geometry.specs.Lists.{gather}
 use Rattle.geometry.specs.Plunges.{fits_plate}
-use Rattle.refusal.specs.declared.Verdict.{Verdict}
-use Rattle.refusal.specs.declared.Verdict.TheVariants.{Accepted, Refused}
 use Rattle.refusal.specs.Refusals.{Trial, trial, first_met, bad_kind, bad_sides, head_of}
 use Rattle.fields.specs.Fields.{head_tag, head_size, plunge_tag, plunge_size, plunge_bytes, end_tag, end_size, place, file_length}
 use Rattle.reading_fields.specs.Openings.{pair_at, opens, open_trials, end_trials}
-use Rattle.reading.specs.declared.ReadAnswer.{ReadAnswer}
-use Rattle.reading.specs.declared.ReadAnswer.TheVariants.{Readable, Unreadable}
+use Rattle.refusal.specs.Refusals.{Verdict}
+use Rattle.reading.specs.declared.Job.{Job}
+use Rattle.refusal.specs.declared.Refusal.{Refusal}
 
 -- ---- the bytes of a field that begins at a place
 
@@ -81,7 +80,7 @@ file_trials f = head_trials f ++ fields_from (suc (length f)) (head_in f) f 0
 
 -- "accepted, or readable, when reading refuses nothing in it"
 abbrev pub IsReadable : List ℕ → Type 0
-IsReadable f = first_met (file_trials f) ≡ Accepted
+IsReadable f = first_met (file_trials f) ≡ Ok tt
 
 -- "Total plunges n make 13 + 7·n bytes."; of a large plate "15 + 10·n"
 abbrev pub total : List ℕ → ℕ
@@ -98,9 +97,9 @@ abbrev pub plunges_in : List ℕ → List Plunge
 plunges_in f = plunges_up_to (total f) f
 
 -- "it gives back kind, width, height and the number of plunges"
-abbrev pub read_answer : Verdict → List ℕ → ReadAnswer
-read_answer Accepted f = Readable (record { head = head_in f; plunges = total f })
-read_answer (Refused r) f = Unreadable r
+abbrev pub read_answer : Verdict → List ℕ → Result Job Refusal
+read_answer (Ok tt) f = Ok (record { head = head_in f; plunges = total f })
+read_answer (Err r) f = Err r
 
-abbrev pub read : List ℕ → ReadAnswer
+abbrev pub read : List ℕ → Result Job Refusal
 read f = read_answer (first_met (file_trials f)) f

@@ -1,8 +1,7 @@
 // Reading a plunge file: its first fault in reading order, or its head and the number of its plunges.
 #![tactic(auto)]
 
-ghost use Rattle.std.specs.Prelude.{◌≡◌, suc, ◌+◌, ◌≤◌, ◌<◌, length};
-ghost use Rattle.refusal.specs.declared.Verdict.TheVariants.{Accepted};
+ghost use Rattle.std.specs.Prelude.{◌≡◌, suc, ◌+◌, ◌≤◌, ◌<◌, length, Ok};
 ghost use Rattle.refusal.specs.Refusals.{largest_side, first_met};
 ghost use Rattle.geometry.specs.declared.Size.TheVariants.{Small, Large};
 ghost use Rattle.geometry.specs.Sizes.{size_of};
@@ -10,7 +9,7 @@ ghost use Rattle.fields.specs.Fields.{plunge_bytes, place};
 ghost use Rattle.reading.specs.Reading.{head_in, plate_trials, head_trials, plunge_trials, fields_from, read_answer, read, nth_plunge, total};
 ghost use Rattle.reading.specs.Steps.{step_of, content_step, step_at, plunge_of, plunge_if, Contained, JobOf};
 
-use geometry::{Head, MaybeReach, Plunge, Reach, Size};
+use geometry::{Head, Plunge, Reach, Size};
 use refusal::{Refusal, Verdict};
 
 // What a readable file says: its plate, and how many plunges follow.
@@ -18,20 +17,6 @@ use refusal::{Refusal, Verdict};
 pub struct Job {
     pub head: Head,
     pub plunges: usize,
-}
-
-// What reading gives: what the file says, or its first fault.
-#[derive(Clone, Copy)]
-pub enum ReadAnswer {
-    Readable(Job),
-    Unreadable(Refusal),
-}
-
-// The plunge of a field, if its reach is one.
-#[derive(Clone, Copy)]
-pub enum MaybePlunge {
-    OfPlunge(Plunge),
-    NoPlunge,
 }
 
 // What a field after the head tells: a plunge that is right, the right end, or a fault.
@@ -69,16 +54,13 @@ fn check_head(file: &[u8]) -> Verdict
     ensures { result ≡ first_met (head_trials file.now) }
 {
     let head = reading_fields::head_opening(Size::Small);
-    let opening = reading_fields::check_open(file, 0, head, head);
-    match opening {
-        Verdict::Accepted => check_plate(file[3], wide(file[4]), wide(file[5])),
-        Verdict::Refused(r) => Verdict::Refused(r),
-    }
+    reading_fields::check_open(file, 0, head, head)?;
+    check_plate(file[3], wide(file[4]), wide(file[5]))
 }
 
 // The head of a file whose head's field refuses nothing.
 pub fn head_in(file: &[u8]) -> Head
-    requires { first_met (head_trials file.now) ≡ Accepted }
+    requires { first_met (head_trials file.now) ≡ Ok tt }
     ensures { result ≡ head_in file.now }
 {
     refusal::head_of(file[3], wide(file[4]), wide(file[5]))
@@ -87,23 +69,23 @@ pub fn head_in(file: &[u8]) -> Head
 // ---- a plunge's field
 
 // A plunge of these numbers, if its reach is one.
-fn plunge_of(column: u16, row: u16, reach: u16, depth: u8) -> MaybePlunge
+fn plunge_of(column: u16, row: u16, reach: u16, depth: u8) -> Option<Plunge>
     ensures { result ≡ plunge_of column row reach depth }
 {
     let maybe = Reach::read(reach);
     match maybe {
-        MaybeReach::OfReach(reach) => MaybePlunge::OfPlunge(Plunge {
+        Some(reach) => Some(Plunge {
             column,
             row,
             reach,
             depth,
         }),
-        MaybeReach::NoReach => MaybePlunge::NoPlunge,
+        None => None,
     }
 }
 
 // The plunge of a small plate's field at a place.
-fn small_plunge(file: &[u8], at: usize) -> MaybePlunge
+fn small_plunge(file: &[u8], at: usize) -> Option<Plunge>
     requires { at + plunge_bytes Small ≤ length file.now }
     ensures { result ≡ plunge_if Small file.now at }
 {
@@ -116,7 +98,7 @@ fn small_plunge(file: &[u8], at: usize) -> MaybePlunge
 }
 
 // That of a large plate's.
-fn large_plunge(file: &[u8], at: usize) -> MaybePlunge
+fn large_plunge(file: &[u8], at: usize) -> Option<Plunge>
     requires { at + plunge_bytes Large ≤ length file.now }
     ensures { result ≡ plunge_if Large file.now at }
 {
@@ -129,7 +111,7 @@ fn large_plunge(file: &[u8], at: usize) -> MaybePlunge
 }
 
 // The plunge of the field at a place.
-pub fn plunge_at(size: Size, file: &[u8], at: usize) -> MaybePlunge
+pub fn plunge_at(size: Size, file: &[u8], at: usize) -> Option<Plunge>
     requires { at + plunge_bytes size ≤ length file.now }
     ensures { result ≡ plunge_if size file.now at }
 {
@@ -147,8 +129,8 @@ pub fn nth_plunge(file: &[u8], job: Job, i: usize) -> Plunge
     let head = job.head;
     let found = plunge_at(head.size(), file, fields::place(head, i));
     match found {
-        MaybePlunge::OfPlunge(q) => q,
-        MaybePlunge::NoPlunge => Plunge {
+        Some(q) => q,
+        None => Plunge {
             column: 0,
             row: 0,
             reach: Reach(0),
@@ -164,16 +146,16 @@ fn check_plunge(file: &[u8], head: Head, at: usize) -> Verdict
 {
     let maybe = plunge_at(head.size(), file, at);
     match maybe {
-        MaybePlunge::OfPlunge(q) => {
+        Some(q) => {
             if q.fits_plate(head) {
                 if q.depth == 0 {
                     return refusal::refuse(9, at);
                 }
-                return Verdict::Accepted;
+                return Ok(());
             }
             refusal::refuse(8, at)
         }
-        MaybePlunge::NoPlunge => refusal::refuse(8, at),
+        None => refusal::refuse(8, at),
     }
 }
 
@@ -184,8 +166,8 @@ fn after(right: Step, verdict: Verdict) -> Step
     ensures { result ≡ step_of right verdict }
 {
     match verdict {
-        Verdict::Accepted => right,
-        Verdict::Refused(r) => Step::Fault(r),
+        Ok(()) => right,
+        Err(r) => Step::Fault(r),
     }
 }
 
@@ -210,13 +192,13 @@ fn field_at(file: &[u8], head: Head, n: usize) -> Step
     let end = reading_fields::end_opening();
     let opening = reading_fields::check_open(file, at, plunge, end);
     match opening {
-        Verdict::Accepted => content_at(file, head, at, n),
-        Verdict::Refused(r) => Step::Fault(r),
+        Ok(()) => content_at(file, head, at, n),
+        Err(r) => Step::Fault(r),
     }
 }
 
 // What the fields after a right head come to.
-fn read_fields(file: &[u8], head: Head) -> ReadAnswer
+fn read_fields(file: &[u8], head: Head) -> Result<Job, Refusal>
     requires { (place head 0 ≤ length file.now) × (head ≡ head_in file.now) × (head.width ≤ largest_side) }
     ensures { result ≡ read_answer (first_met (fields_from (suc (length file.now)) head file.now 0)) file.now }
 {
@@ -228,22 +210,19 @@ fn read_fields(file: &[u8], head: Head) -> ReadAnswer
                 n += 1;
             }
             Step::Ended => {
-                return ReadAnswer::Readable(Job { head, plunges: n });
+                return Ok(Job { head, plunges: n });
             }
             Step::Fault(r) => {
-                return ReadAnswer::Unreadable(r);
+                return Err(r);
             }
         }
     }
 }
 
 // The first fault of a file, or what it says.
-pub fn read(file: &[u8]) -> ReadAnswer
+pub fn read(file: &[u8]) -> Result<Job, Refusal>
     ensures { result ≡ read file.now }
 {
-    let verdict = check_head(file);
-    match verdict {
-        Verdict::Accepted => read_fields(file, head_in(file)),
-        Verdict::Refused(r) => ReadAnswer::Unreadable(r),
-    }
+    check_head(file)?;
+    read_fields(file, head_in(file))
 }

@@ -1,4 +1,5 @@
 -- Laws of a field's opening and of the end field: what the tests that were made come to.
+use Rattle.std.specs.Prelude.{Ok, Err}
 use mathlib.Core.Path.{◌≡◌, refl, sym, ap, ◌∙◌}
 use mathlib.Core.Bool.{Bool, true, false, cond, not}
 use mathlib.Core.List.{List, [], ◌∷◌}
@@ -9,17 +10,16 @@ use borrow.Author.Tests.{ltb-false, eqb-true, not-false, lt-ltb, le-ltb, eq-eqb,
 use lib.Dec.{ltb, eqb}
 use lib.ListN.{length, get_or}
 use Rattle.refusal.specs.declared.Refusal.{Refusal}
-use Rattle.refusal.specs.declared.Verdict.{Verdict}
-use Rattle.refusal.specs.declared.Verdict.TheVariants.{Accepted, Refused}
 use Rattle.refusal.specs.Refusals.{trial, first_met}
 use Rattle.refusal.proofs.Trials.{cond-accepted}
 use Rattle.fields.specs.Fields.{opening, end_bytes}
 use Rattle.reading_fields.specs.declared.Opening.{Opening}
 use Rattle.reading_fields.specs.Openings.{length_at, opens, number_at, open_trials, end_trials}
 use Rattle.reading_fields.specs.Either.{begins, opens_either, size_either}
+use Rattle.refusal.specs.Refusals.{Verdict}
 
 abbrev pub refused : ℕ → ℕ → Verdict
-refused n at = Refused (record { number = n; place = at })
+refused n at = Err (record { number = n; place = at })
 
 -- ---- the opening of a field
 
@@ -30,7 +30,7 @@ module _ (f : List ℕ) (at : ℕ) (allowed : Bool) (size : ℕ) (h : at ≤ len
   -- what is tried where three bytes are there and the opening is allowed: the content
   pub open-content : opening ≤ length f - at → allowed ≡ true
       → first_met (trial (ltb (length f - at) (opening + size)) 6 at ∷ []) ≡ first_met (open_trials f at allowed size)
-  open-content l e = let g : at + opening ≤ length f = omega arith in rw (le-ltb _ _ g, e) (ap (λ b. cond b (refused 6 at) Accepted) same)
+  open-content l e = let g : at + opening ≤ length f = omega arith in rw (le-ltb _ _ g, e) (ap (λ b. cond b (refused 6 at) (Ok tt)) same)
     where
       same : ltb (length f - at) (opening + size) ≡ ltb (length f) (at + (opening + size))
       same = go (dec_le (opening + size) (length f - at))
@@ -45,8 +45,8 @@ module _ (f : List ℕ) (at : ℕ) (allowed : Bool) (size : ℕ) (h : at ≤ len
   pub open-wrong : opening ≤ length f - at → allowed ≡ false → refused 7 at ≡ first_met (open_trials f at allowed size)
   open-wrong l e = let g : at + opening ≤ length f = omega arith in rw (le-ltb _ _ g, e)
 
-  pub open-whole : opening ≤ length f - at → allowed ≡ true → opening + size ≤ length f - at → Accepted ≡ first_met (open_trials f at allowed size)
-  open-whole l e k = ap (λ b. cond b (refused 6 at) Accepted) (sym (le-ltb _ _ k)) ∙ open-content l e
+  pub open-whole : opening ≤ length f - at → allowed ≡ true → opening + size ≤ length f - at → (Ok tt) ≡ first_met (open_trials f at allowed size)
+  open-whole l e k = ap (λ b. cond b (refused 6 at) (Ok tt)) (sym (le-ltb _ _ k)) ∙ open-content l e
 
 -- by which of two it begins
 module _ (f : List ℕ) (at : ℕ) (a b : Opening) (h : at ≤ length f) (l : opening ≤ length f - at) where
@@ -64,13 +64,13 @@ module _ (f : List ℕ) (at : ℕ) (a b : Opening) (h : at ≤ length f) (l : op
 -- ---- what a field that opens has
 
 -- a field that opens has its content, and its tag and length are allowed
-pub opened : (f : List ℕ) (at : ℕ) (allowed : Bool) (size : ℕ) → first_met (open_trials f at allowed size) ≡ Accepted → (at + (opening + size) ≤ length f)
+pub opened : (f : List ℕ) (at : ℕ) (allowed : Bool) (size : ℕ) → first_met (open_trials f at allowed size) ≡ Ok tt → (at + (opening + size) ≤ length f)
     × (allowed ≡ true)
 opened f at allowed size e =
     let six : Refusal = record { number = 6; place = at } in
     let a = cond-accepted (ltb (length f) (at + opening)) six (first_met (trial (not allowed) 7 at ∷ trial (ltb (length f) (at + (opening + size))) 6 at ∷ [])) e in
     let b = cond-accepted (not allowed) (record { number = 7; place = at }) (first_met (trial (ltb (length f) (at + (opening + size))) 6 at ∷ [])) a.1 in
-    let c = cond-accepted (ltb (length f) (at + (opening + size))) six Accepted b.1 in
+    let c = cond-accepted (ltb (length f) (at + (opening + size))) six (Ok tt) b.1 in
     (ltb-false _ _ c.0, not-false allowed b.0)
 
 -- a field that opens: its tag and its length
@@ -94,14 +94,14 @@ once f at o = go (begins o f at)
 
 module _ (f : List ℕ) (at n : ℕ) where
   pub end-10 : (number_at f at ≡ n → ⊥) → refused 10 at ≡ first_met (end_trials f at n)
-  end-10 e = ap (λ b. cond (not b) (refused 10 at) (cond (ltb (at + end_bytes) (length f)) (refused 11 (at + end_bytes)) Accepted)) (sym (ne_eqb _ _ e))
+  end-10 e = ap (λ b. cond (not b) (refused 10 at) (cond (ltb (at + end_bytes) (length f)) (refused 11 (at + end_bytes)) (Ok tt))) (sym (ne_eqb _ _ e))
 
   pub end-11 : number_at f at ≡ n → at + end_bytes < length f → refused 11 (at + end_bytes) ≡ first_met (end_trials f at n)
   end-11 e l =
-      ap (λ b. cond b (refused 11 (at + end_bytes)) Accepted) (sym (lt-ltb _ _ l))
-      ∙ ap (λ b. cond (not b) (refused 10 at) (cond (ltb (at + end_bytes) (length f)) (refused 11 (at + end_bytes)) Accepted)) (sym (eq-eqb _ _ e))
+      ap (λ b. cond b (refused 11 (at + end_bytes)) (Ok tt)) (sym (lt-ltb _ _ l))
+      ∙ ap (λ b. cond (not b) (refused 10 at) (cond (ltb (at + end_bytes) (length f)) (refused 11 (at + end_bytes)) (Ok tt))) (sym (eq-eqb _ _ e))
 
-  pub end-right : number_at f at ≡ n → length f ≤ at + end_bytes → Accepted ≡ first_met (end_trials f at n)
+  pub end-right : number_at f at ≡ n → length f ≤ at + end_bytes → (Ok tt) ≡ first_met (end_trials f at n)
   end-right e l =
-      ap (λ b. cond b (refused 11 (at + end_bytes)) Accepted) (sym (le-ltb _ _ l))
-      ∙ ap (λ b. cond (not b) (refused 10 at) (cond (ltb (at + end_bytes) (length f)) (refused 11 (at + end_bytes)) Accepted)) (sym (eq-eqb _ _ e))
+      ap (λ b. cond b (refused 11 (at + end_bytes)) (Ok tt)) (sym (le-ltb _ _ l))
+      ∙ ap (λ b. cond (not b) (refused 10 at) (cond (ltb (at + end_bytes) (length f)) (refused 11 (at + end_bytes)) (Ok tt))) (sym (eq-eqb _ _ e))

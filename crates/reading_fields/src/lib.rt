@@ -67,7 +67,7 @@ fn check_content(left: usize, size: u16, at: usize) -> Verdict
     if left - fields::OPENING < (size as usize) {
         return refusal::refuse(6, at);
     }
-    Verdict::Accepted
+    Ok(())
 }
 
 // Refusals 6, 7 and 6 in their order: three bytes, a field that begins in one of two ways, the whole content.
@@ -111,7 +111,7 @@ pub fn check_end(file: &[u8], at: usize, n: usize) -> Verdict
         if next < file.len() {
             return refusal::refuse(11, next);
         }
-        return Verdict::Accepted;
+        return Ok(());
     }
     refusal::refuse(10, at)
 }

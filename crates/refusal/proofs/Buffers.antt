@@ -1,29 +1,29 @@
 -- What buffers hold at exit, byte for byte: the definitions `written`, `free` and `Worked` pinned down.
+use Rattle.std.specs.Prelude.{Ok, Err}
 use mathlib.Core.Path.{◌≡◌, refl, sym, ap, ◌∙◌}
 use mathlib.Core.Bool.{true, false}
 use mathlib.Core.List.{List, [], ◌∷◌, map}
 use Prim.Native.Nat.{ℕ, ◌+◌}
 use lib.ListN.{length, take, drop, get_or}
 use lib.Seq.{take-append_seam, drop-append_seam, get_or-drop}
-use Rattle.refusal.specs.declared.Verdict.TheVariants.{Accepted, Refused}
 use Rattle.refusal.specs.declared.Refusal.{Refusal}
-use Rattle.refusal.specs.declared.Verdict.{Verdict}
 use Rattle.refusal.specs.Refusals.{written, free, Worked}
 use Rattle.refusal.proofs.Refusals.{refused}
+use Rattle.refusal.specs.Refusals.{Verdict}
 
 -- an output: the answer's bytes, then those that stood there; on a refusal all of them
 module _ (new old : List ℕ) where
-  pub written-past : drop (length new) (written Accepted new old) ≡ drop (length new) old
+  pub written-past : drop (length new) (written (Ok tt) new old) ≡ drop (length new) old
   written-past = drop-append_seam new (drop (length new) old)
 
-  pub written-first : take (length new) (written Accepted new old) ≡ new
+  pub written-first : take (length new) (written (Ok tt) new old) ≡ new
   written-first = take-append_seam new (drop (length new) old)
 
-  pub written-refused : (r : Refusal) → written (Refused r) new old ≡ old
+  pub written-refused : (r : Refusal) → written (Err r) new old ≡ old
   written-refused r = refl
 
 -- work bytes are free after acceptance, 5 and 12, of the refusals 1 to 14
-pub free-after : map free (Accepted ∷ map refused (1 ∷ 2 ∷ 3 ∷ 4 ∷ 5 ∷ 6 ∷ 7 ∷ 8 ∷ 9 ∷ 10 ∷ 11 ∷ 12 ∷ 13 ∷ 14 ∷ []))
+pub free-after : map free ((Ok tt) ∷ map refused (1 ∷ 2 ∷ 3 ∷ 4 ∷ 5 ∷ 6 ∷ 7 ∷ 8 ∷ 9 ∷ 10 ∷ 11 ∷ 12 ∷ 13 ∷ 14 ∷ []))
     ≡ true ∷ false ∷ false ∷ false ∷ false ∷ true ∷ false ∷ false ∷ false ∷ false ∷ false ∷ false ∷ true ∷ false ∷ false ∷ []
 free-after = refl
 

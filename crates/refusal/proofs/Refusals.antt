@@ -1,4 +1,5 @@
 -- Laws of refusals: which is given by the tests that led to it, what acceptance says, and the shortest buffer stands for all.
+use Rattle.std.specs.Prelude.{Option, Some, None, Ok, Err, is_none}
 use mathlib.Core.Path.{◌≡◌, refl, sym, ap}
 use mathlib.Core.Bool.{Bool, true, false, cond, not}
 use mathlib.Core.List.{List, [], ◌∷◌}
@@ -8,14 +9,11 @@ use native.Mathlib.Nat.{mul-le-mul}
 use borrow.Author.Tests.{ltb-true, ltb-false, lt-ltb, le-ltb, leb-true, leb-false, le-leb, eq-eqb, ne_eqb, not-false}
 use lib.Dec.{leb, ltb, eqb}
 use Rattle.geometry.specs.declared.Kind.{Kind}
-use Rattle.geometry.specs.declared.MaybeKind.{MaybeKind}
-use Rattle.geometry.specs.declared.MaybeKind.TheVariants.{OfKind, NoKind}
 use Rattle.geometry.specs.Lists.{any}
 use Rattle.geometry.specs.Forms.{kind_of}
-use Rattle.refusal.specs.declared.Verdict.{Verdict}
-use Rattle.refusal.specs.declared.Verdict.TheVariants.{Accepted, Refused}
 use Rattle.refusal.specs.declared.Refusal.{Refusal}
-use Rattle.refusal.specs.Refusals.{trial, first_met, is_side, largest_side, is_erosion_number, largest_erosion, is_level, largest_level, is_none, bad_kind, bad_sides, short, side_trials, map_trials, kind_named, head_of, written, Answered}
+use Rattle.refusal.specs.Refusals.{trial, first_met, is_side, largest_side, is_erosion_number, largest_erosion, is_level, largest_level, bad_kind, bad_sides, short, side_trials, map_trials, kind_named, head_of, written, Answered}
+use Rattle.refusal.specs.Refusals.{Verdict}
 
 -- two sides of 16 bits have a product that a length can be compared with
 pub area-fits : (w h : ℕ) → w < 65536 → h < 65536 → h * w < 4294967296
@@ -25,7 +23,7 @@ area-fits w h a b =
     omega (arith, mul-le-mul d c)
 
 abbrev pub refused : ℕ → Verdict
-refused n = Refused (record { number = n; place = 0 })
+refused n = Err (record { number = n; place = 0 })
 
 -- the first met, by the tests that were made
 module _ (w h : ℕ) (wrong : Bool) (n : ℕ) where
@@ -38,14 +36,14 @@ module _ (w h : ℕ) (wrong : Bool) (n : ℕ) where
   pub gives-4 : bad_sides w h ≡ false → wrong ≡ false → n < h * w → refused 4 ≡ first_met (side_trials w h wrong (n ∷ []))
   gives-4 e g l = rw (e, g, lt-ltb _ _ l)
 
-  pub gives_none : bad_sides w h ≡ false → wrong ≡ false → h * w ≤ n → Accepted ≡ first_met (side_trials w h wrong (n ∷ []))
+  pub gives_none : bad_sides w h ≡ false → wrong ≡ false → h * w ≤ n → (Ok tt) ≡ first_met (side_trials w h wrong (n ∷ []))
   gives_none e g l = rw (e, g, le-ltb _ _ l)
 
 -- a verdict asks of the buffers only whether one is short
 pub same-verdict : (k w h : ℕ) (wrong : Bool) (some others : List ℕ) → short w h some ≡ short w h others
     → first_met (map_trials k w h wrong some) ≡ first_met (map_trials k w h wrong others)
 same-verdict k w h wrong some others e =
-    ap (λ (b : Bool). cond (bad_kind k) (refused 1) (cond (bad_sides w h) (refused 2) (cond wrong (refused 3) (cond b (refused 4) Accepted)))) e
+    ap (λ (b : Bool). cond (bad_kind k) (refused 1) (cond (bad_sides w h) (refused 2) (cond wrong (refused 3) (cond b (refused 4) (Ok tt))))) e
 
 -- the shortest of two buffers stands for both
 pub shortest-two : (a m n : ℕ) (more : List ℕ) → any (λ k. ltb k a) (m ∷ n ∷ more) ≡ any (λ k. ltb k a) (min m n ∷ more)
@@ -58,14 +56,14 @@ shortest-two a m n more = go (ltb m a) (ltb n a) refl refl
 
 -- a byte that names a kind; one that names none
 module _ (k w h : ℕ) (wrong : Bool) (lengths : List ℕ) where
-  pub kind-passes : (kd : Kind) → kind_of k ≡ OfKind kd → first_met (map_trials k w h wrong lengths) ≡ first_met (side_trials w h wrong lengths)
-  kind-passes kd e = ap (λ (m : MaybeKind). first_met (trial (is_none m) 1 0 ∷ side_trials w h wrong lengths)) e
+  pub kind-passes : (kd : Kind) → kind_of k ≡ Some kd → first_met (map_trials k w h wrong lengths) ≡ first_met (side_trials w h wrong lengths)
+  kind-passes kd e = ap (λ (m : (Option Kind)). first_met (trial (is_none m) 1 0 ∷ side_trials w h wrong lengths)) e
 
-  pub kind-refused : kind_of k ≡ NoKind → first_met (map_trials k w h wrong lengths) ≡ refused 1
-  kind-refused e = ap (λ (m : MaybeKind). first_met (trial (is_none m) 1 0 ∷ side_trials w h wrong lengths)) e
+  pub kind-refused : kind_of k ≡ None → first_met (map_trials k w h wrong lengths) ≡ refused 1
+  kind-refused e = ap (λ (m : (Option Kind)). first_met (trial (is_none m) 1 0 ∷ side_trials w h wrong lengths)) e
 
-pub head-named : (k w h : ℕ) (m : MaybeKind) → kind_of k ≡ m → record { kind = kind_named m; width = w; height = h } ≡ head_of k w h
-head-named k w h m e = ap (λ (n : MaybeKind). record { kind = kind_named n; width = w; height = h }) (sym e)
+pub head-named : (k w h : ℕ) (m : (Option Kind)) → kind_of k ≡ m → record { kind = kind_named m; width = w; height = h } ≡ head_of k w h
+head-named k w h m e = ap (λ (n : (Option Kind)). record { kind = kind_named n; width = w; height = h }) (sym e)
 
 -- what an accepted call knows of its arguments
 pub record Sound (w h : ℕ) (wrong : Bool) (n : ℕ) : Type 0 where
@@ -76,7 +74,7 @@ pub record Sound (w h : ℕ) (wrong : Bool) (n : ℕ) : Type 0 where
   pub right : wrong ≡ false
   pub long : h * w ≤ n
 
-refused-not : (n : ℕ) → refused n ≡ Accepted → ⊥
+refused-not : (n : ℕ) → refused n ≡ Ok tt → ⊥
 refused-not n e = let z : ◌≡◌ {A = ℕ} 0 1 = cc in omega arith
 
 -- a side, the number of an erosion and a level are each a number from 1 to the largest
@@ -95,11 +93,11 @@ sides-ok w h = go (is_side w) (is_side h) refl refl
     go true false e g k = let z : ◌≡◌ {A = ℕ} 0 1 = cc in absurd (omega arith)
     go false b e g k = let z : ◌≡◌ {A = ℕ} 0 1 = cc in absurd (omega arith)
 
-pub sound : (w h : ℕ) (wrong : Bool) (n : ℕ) → first_met (side_trials w h wrong (n ∷ [])) ≡ Accepted → Sound w h wrong n
+pub sound : (w h : ℕ) (wrong : Bool) (n : ℕ) → first_met (side_trials w h wrong (n ∷ [])) ≡ Ok tt → Sound w h wrong n
 sound w h wrong n = go (bad_sides w h) wrong (ltb n (h * w)) refl refl refl
   where
     go : (a b c : Bool) → bad_sides w h ≡ a → wrong ≡ b → ltb n (h * w) ≡ c
-        → cond a (refused 2) (cond b (refused 3) (cond (cond c true false) (refused 4) Accepted)) ≡ Accepted → Sound w h wrong n
+        → cond a (refused 2) (cond b (refused 3) (cond (cond c true false) (refused 4) (Ok tt))) ≡ Ok tt → Sound w h wrong n
     go true b c e g k v = absurd (refused-not 2 v)
     go false true c e g k v = absurd (refused-not 3 v)
     go false false true e g k v = absurd (refused-not 4 v)
@@ -109,10 +107,10 @@ sound w h wrong n = go (bad_sides w h) wrong (ltb n (h * w)) refl refl refl
         let y = one-to largest_side h s.1 in
         record { wide = x.0; narrow = x.1; tall = y.0; low = y.1; right = g; long = ltb-false _ _ k }
 
-pub map-sound : (k w h : ℕ) (wrong : Bool) (n : ℕ) → first_met (map_trials k w h wrong (n ∷ [])) ≡ Accepted → Sound w h wrong n
+pub map-sound : (k w h : ℕ) (wrong : Bool) (n : ℕ) → first_met (map_trials k w h wrong (n ∷ [])) ≡ Ok tt → Sound w h wrong n
 map-sound k w h wrong n = go (bad_kind k)
   where
-    go : (a : Bool) → cond a (refused 1) (first_met (side_trials w h wrong (n ∷ []))) ≡ Accepted → Sound w h wrong n
+    go : (a : Bool) → cond a (refused 1) (first_met (side_trials w h wrong (n ∷ []))) ≡ Ok tt → Sound w h wrong n
     go true v = absurd (refused-not 1 v)
     go false v = sound w h wrong n v
 
@@ -135,5 +133,5 @@ byte-level t g = go (leb 1 t) refl
     go false e = let z : t ≡ 0 = omega (arith, leb-false 1 t e) in rw (eq-eqb _ _ z)
 
 -- a refused call answers its refusal and leaves its output
-pub answered-refused : (v : Verdict) (q : Refusal) (new out : List ℕ) → v ≡ Refused q → Answered v new out out (Refused q)
+pub answered-refused : (v : Verdict) (q : Refusal) (new out : List ℕ) → v ≡ Err q → Answered v new out out (Err q)
 answered-refused v q new out e = record { answer = sym e; bytes = sym (ap (λ (u : Verdict). written u new out) e) }

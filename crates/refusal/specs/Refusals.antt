@@ -1,15 +1,16 @@
 -- To be believed: refusals: "a number with a place" (document 01, "Refusals in their order"). What is tried, in which order, and what is left in a buffer.
-use Rattle.std.specs.Prelude.{◌≡◌, Bool, true, false, cond, not, List, [], ◌∷◌, ◌++◌, ℕ, ◌*◌, leb, ltb, eqb, length, drop}
+use Rattle.std.specs.Prelude.{◌≡◌, Bool, true, false, cond, not, List, [], ◌∷◌, ◌++◌, ℕ, ◌*◌, leb, ltb, eqb, length, drop, ⊤, Option, Some, None, Result, Ok, Err, is_none, unwrap_or}
 use Rattle.geometry.specs.declared.Kind.{Kind}
 use Rattle.geometry.specs.declared.Kind.TheVariants.{Square}
-use Rattle.geometry.specs.declared.MaybeKind.{MaybeKind}
-use Rattle.geometry.specs.declared.MaybeKind.TheVariants.{OfKind, NoKind}
 use Rattle.geometry.specs.declared.Head.{Head}
 use Rattle.geometry.specs.Lists.{any}
 use Rattle.geometry.specs.Forms.{kind_of}
 use Rattle.geometry.specs.Sizes.{small_side}
-use Rattle.refusal.specs.declared.Verdict.{Verdict}
-use Rattle.refusal.specs.declared.Verdict.TheVariants.{Accepted, Refused}
+use Rattle.refusal.specs.declared.Refusal.{Refusal}
+
+-- what a call says of its arguments and buffers: nothing against them, or a refusal
+abbrev pub Verdict : Type 0
+Verdict = Result ⊤ Refusal
 
 -- one thing that is tried: whether it is met, and the number and the place of its refusal
 pub record Trial : Type 0 where
@@ -22,8 +23,8 @@ trial b n p = record { met = b; number = n; place = p }
 
 -- "The first met is given."
 abbrev pub first_met : List Trial → Verdict
-first_met [] = Accepted
-first_met (t ∷ more) = cond t.met (Refused (record { number = t.number; place = t.place })) (first_met more)
+first_met [] = Ok tt
+first_met (t ∷ more) = cond t.met (Err (record { number = t.number; place = t.place })) (first_met more)
 
 -- "each 1 to 240 cells"
 abbrev pub largest_side : ℕ
@@ -47,10 +48,6 @@ largest_level = 255
 abbrev pub is_level : ℕ → Bool
 is_level t = cond (leb 1 t) (leb t largest_level) false
 
-abbrev pub is_none : MaybeKind → Bool
-is_none (OfKind kd) = false
-is_none NoKind = true
-
 -- "1: kind not 4 or 8": the byte names no kind
 abbrev pub bad_kind : ℕ → Bool
 bad_kind k = is_none (kind_of k)
@@ -72,9 +69,9 @@ abbrev pub map_trials : ℕ → ℕ → ℕ → Bool → List ℕ → List Trial
 map_trials k w h wrong lengths = trial (bad_kind k) 1 0 ∷ side_trials w h wrong lengths
 
 -- the kind that was named; where none was, a call is refused and nothing is said by it
-abbrev pub kind_named : MaybeKind → Kind
-kind_named (OfKind kd) = kd
-kind_named NoKind = Square
+abbrev pub kind_named : Option Kind → Kind
+kind_named (Some kd) = kd
+kind_named None = Square
 
 -- the plate that a kind's byte and two sides describe
 abbrev pub head_of : ℕ → ℕ → ℕ → Head
@@ -82,8 +79,8 @@ head_of k w h = record { kind = kind_named (kind_of k); width = w; height = h }
 
 -- what an output holds at exit: the answer's bytes, then what stood there before; unchanged on a refusal
 abbrev pub written : Verdict → List ℕ → List ℕ → List ℕ
-written Accepted new old = new ++ drop (length new) old
-written (Refused r) new old = old
+written (Ok tt) new old = new ++ drop (length new) old
+written (Err r) new old = old
 
 -- a call that gives a verdict and one output
 pub record Answered (verdict : Verdict) (new old now : List ℕ) (r : Verdict) : Type 0 where
@@ -92,8 +89,8 @@ pub record Answered (verdict : Verdict) (new old now : List ℕ) (r : Verdict) :
 
 -- work bytes "are free after acceptance, and after refusals 5 and 12; other refusals leave them untouched"
 abbrev pub free : Verdict → Bool
-free Accepted = true
-free (Refused r) = cond (eqb r.number 5) true (eqb r.number 12)
+free (Ok tt) = true
+free (Err r) = cond (eqb r.number 5) true (eqb r.number 12)
 
 -- a work buffer: its length and what lies past the plate's bytes stay, and all of it where its bytes are not free
 pub record Worked (verdict : Verdict) (area : ℕ) (old now : List ℕ) : Type 0 where

@@ -4,7 +4,7 @@
 ghost use Rattle.std.specs.Prelude.{◌≡◌, [], ◌∷◌};
 ghost use Rattle.refusal.specs.Refusals.{is_side, bad_sides, is_erosion_number, head_of, first_met, side_trials, map_trials};
 
-use geometry::{Head, Kind, MaybeKind};
+use geometry::{Head, Kind};
 
 // A number of document 01's table, and a place.
 #[derive(Clone, Copy)]
@@ -14,11 +14,7 @@ pub struct Refusal {
 }
 
 // What a call says of its arguments and buffers.
-#[derive(Clone, Copy)]
-pub enum Verdict {
-    Accepted,
-    Refused(Refusal),
-}
+pub type Verdict = Result<(), Refusal>;
 
 // A plate's side is 1 to this.
 pub const LARGEST_SIDE: u16 = geometry::SMALL_SIDE;
@@ -29,33 +25,27 @@ pub const LARGEST_EROSION: u16 = 120;
 fn is_side(n: u16) -> bool
     ensures { result ≡ is_side n }
 {
-    if 1 <= n { n <= LARGEST_SIDE } else { false }
+    1 <= n && n <= LARGEST_SIDE
 }
 
 // Whether a number is one of an erosion or a residue.
 pub fn is_erosion_number(n: u16) -> bool
     ensures { result ≡ is_erosion_number n }
 {
-    if 1 <= n { n <= LARGEST_EROSION } else { false }
+    1 <= n && n <= LARGEST_EROSION
 }
 
 // A refusal, as a verdict.
 pub fn refuse(number: u8, place: usize) -> Verdict
-    ensures { result ≡ Verdict.Refused (record { number = number; place = place }) }
+    ensures { result ≡ Err (record { number = number; place = place }) }
 {
-    Verdict::Refused(Refusal { number, place })
+    Err(Refusal { number, place })
 }
 
 fn bad_sides(width: u16, height: u16) -> bool
     ensures { result ≡ bad_sides width height }
 {
-    if is_side(width) {
-        if is_side(height) {
-            return false;
-        }
-        return true;
-    }
-    true
+    !is_side(width) || !is_side(height)
 }
 
 // Refusals 2, 3 and 4 in their order: the sides, what 3 is about, the shortest buffer.
@@ -71,35 +61,26 @@ pub fn check_sides(width: u16, height: u16, wrong: bool, shortest: usize) -> Ver
     if shortest < (height as usize) * (width as usize) {
         return refuse(4, 0);
     }
-    Verdict::Accepted
+    Ok(())
 }
 
 // Refusals 1, 2, 3 and 4 in their order.
 pub fn check_map(kind: u8, width: u16, height: u16, wrong: bool, shortest: usize) -> Verdict
     ensures { result ≡ first_met (map_trials kind width height wrong (shortest ∷ [])) }
 {
-    let maybe = Kind::of_byte(kind);
-    match maybe {
-        MaybeKind::OfKind(_named) => check_sides(width, height, wrong, shortest),
-        MaybeKind::NoKind => refuse(1, 0),
+    if Kind::of_byte(kind).is_none() {
+        return refuse(1, 0);
     }
+    check_sides(width, height, wrong, shortest)
 }
 
 // The plate of a kind's byte and two sides.
 pub fn head_of(kind: u8, width: u16, height: u16) -> Head
     ensures { result ≡ head_of kind width height }
 {
-    let maybe = Kind::of_byte(kind);
-    match maybe {
-        MaybeKind::OfKind(named) => Head {
-            kind: named,
-            width,
-            height,
-        },
-        MaybeKind::NoKind => Head {
-            kind: Kind::Square,
-            width,
-            height,
-        },
+    Head {
+        kind: Kind::of_byte(kind).unwrap_or(Kind::Square),
+        width,
+        height,
     }
 }

@@ -1,4 +1,5 @@
 -- From the listing call's promise to the text: the verdict by the buffers' lengths, the file that was listed, and that surplus input changes nothing.
+use Rattle.std.specs.Prelude.{Ok, Err}
 use mathlib.Core.Path.{◌≡◌, refl, sym, ap, ap₂, ◌∙◌, subst}
 use mathlib.Core.Bool.{Bool, true, false, cond}
 use mathlib.Core.List.{List, [], ◌∷◌, ◌++◌}
@@ -17,8 +18,6 @@ use Rattle.geometry.specs.Sizes.{size_of}
 use Rattle.theory.proofs.Plunges.{fits_plate-iff}
 use Rattle.theory.proofs.Listing.{listed-fits}
 use Rattle.refusal.specs.declared.Refusal.{Refusal}
-use Rattle.refusal.specs.declared.Verdict.{Verdict}
-use Rattle.refusal.specs.declared.Verdict.TheVariants.{Accepted, Refused}
 use Rattle.refusal.specs.Refusals.{trial, first_met, map_trials, short, bad_kind, bad_sides, head_of, largest_erosion, written}
 use Rattle.refusal.specs.Sides.{Sides}
 use Rattle.refusal.proofs.Refusals.{Sound, sound, map-sound, gives_none}
@@ -30,7 +29,6 @@ use Rattle.reading.specs.Steps.{JobOf}
 use Rattle.refusal.proofs.Trials.{first-append, both-accepted}
 use Rattle.reading.proofs.Readable.{Writable, encoded-readable, encoded-head, encoded-plunges, encoded-total}
 use Rattle.listing.specs.declared.Extent.{Extent}
-use Rattle.listing.specs.declared.ListAnswer.TheVariants.{Listed, Unlisted}
 use Rattle.listing.specs.Answers.{list_answer}
 use Rattle.listing_plunges.proofs.Plunges.{listing-few}
 use Rattle.jobs.specs.Calls.{list_verdict, ListCall}
@@ -41,9 +39,10 @@ use Rattle.text.specs.Pages.{line_at, line_count, PageOf}
 use Rattle.text.proofs.Pages.{page-whole}
 use Rattle.scan_text.specs.Program.{file_buffer, most_cells, text_room, plate_in, plunges_of, list_length, scan_verdict, plunges_text}
 use Rattle.scan_text.specs.Listed.{ListedFile}
+use Rattle.refusal.specs.Refusals.{Verdict}
 
 abbrev pub refused : ℕ → Verdict
-refused n = Refused (record { number = n; place = 0 })
+refused n = Err (record { number = n; place = 0 })
 
 -- ---- the verdict, with work buffers of the largest plate
 
@@ -89,23 +88,23 @@ module _ (s out a b : List ℕ) (o : file_buffer ≡ length out) (i : most_cells
   -- ---- what the call answered
 
   module _ (out' a' b' : List ℕ) where
-    pub unlisted-text : (q : Refusal) → ListCall (depths s) k w h out out' a a' b b' (Unlisted q) → refusal_line q ≡ plunges_text s
+    pub unlisted-text : (q : Refusal) → ListCall (depths s) k w h out out' a a' b b' (Err q) → refusal_line q ≡ plunges_text s
     unlisted-text q c = ap (λ (v : Verdict). answer_text v (plate_in s) (plunges_of s)) (sym (sym verdict-same ∙ was _ _ c.answer))
       where
-        was : (v : Verdict) (n : ℕ) → Unlisted q ≡ list_answer v (plate_in s) (plunges_of s) n → v ≡ Refused q
-        was Accepted n e = let z : ◌≡◌ {A = ℕ} 0 1 = cc in absurd (omega arith)
-        was (Refused r) n e = ap Refused cc
+        was : (v : Verdict) (n : ℕ) → Err q ≡ list_answer v (plate_in s) (plunges_of s) n → v ≡ Err q
+        was (Ok tt) n e = let z : ◌≡◌ {A = ℕ} 0 1 = cc in absurd (omega arith)
+        was (Err r) n e = ap Err cc
 
-    module _ (e : Extent) (c : ListCall (depths s) k w h out out' a a' b b' (Listed e)) where
+    module _ (e : Extent) (c : ListCall (depths s) k w h out out' a a' b b' (Ok e)) where
       abbrev file : List ℕ
       file = encoded (plate_in s) (plunges_of s)
 
-      known : (v : Verdict) (n : ℕ) → Listed e ≡ list_answer v (plate_in s) (plunges_of s) n
-          → (v ≡ Accepted) × (e.bytes ≡ list_length s) × (e.plunges ≡ length (plunges_of s))
-      known Accepted n g = (refl, cc, cc)
-      known (Refused r) n g = let z : ◌≡◌ {A = ℕ} 0 1 = cc in absurd (omega arith)
+      known : (v : Verdict) (n : ℕ) → Ok e ≡ list_answer v (plate_in s) (plunges_of s) n
+          → (v ≡ Ok tt) × (e.bytes ≡ list_length s) × (e.plunges ≡ length (plunges_of s))
+      known (Ok tt) n g = (refl, cc, cc)
+      known (Err r) n g = let z : ◌≡◌ {A = ℕ} 0 1 = cc in absurd (omega arith)
 
-      was : (list_verdict (depths s) k w h out a b ≡ Accepted) × (e.bytes ≡ list_length s) × (e.plunges ≡ length (plunges_of s))
+      was : (list_verdict (depths s) k w h out a b ≡ Ok tt) × (e.bytes ≡ list_length s) × (e.plunges ≡ length (plunges_of s))
       was = known _ _ c.answer
 
       long : length file ≡ e.bytes
@@ -146,7 +145,7 @@ module _ (s file : List ℕ) (n : ℕ) (f : ListedFile s file n) where
       (trial (ltb file_buffer (list_length s)) 5 (list_length s) ∷ [])) ∙ f.accepted) in
       (map-sound (byte_in s 0) (byte_in s 1) (byte_in s 2) false (length (depths s)) both.0, room (ltb file_buffer (list_length s)) refl both.1)
     where
-      room : (t : Bool) → ltb file_buffer (list_length s) ≡ t → cond t (Refused (record { number = 5; place = list_length s })) Accepted ≡ Accepted → list_length s ≤ file_buffer
+      room : (t : Bool) → ltb file_buffer (list_length s) ≡ t → cond t (Err (record { number = 5; place = list_length s })) (Ok tt) ≡ Ok tt → list_length s ≤ file_buffer
       room true e v = let z : ◌≡◌ {A = ℕ} 0 1 = cc in absurd (omega arith)
       room false e v = ltb-false _ _ e
 

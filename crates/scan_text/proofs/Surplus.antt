@@ -10,7 +10,6 @@ use lib.Dec.{ltb, lit<}
 use lib.ListN.{length, take, drop, length-take}
 use lib.Seq.{get_or-take, take-take, take-nil}
 use Rattle.theory.proofs.Canonical.{listing-prefix}
-use Rattle.refusal.specs.declared.Verdict.{Verdict}
 use Rattle.refusal.specs.Refusals.{trial, first_met, short, bad_kind, bad_sides, head_of, largest_erosion}
 use Rattle.fields.specs.Fields.{file_length}
 use Rattle.jobs.specs.Calls.{listed}
@@ -18,6 +17,7 @@ use Rattle.scan.specs.Scan.{byte_in, depths}
 use Rattle.text_lines.specs.Text.{answer_text}
 use Rattle.scan_text.specs.Program.{file_buffer, most_cells, most_scan, plunges_text}
 use Rattle.scan_text.proofs.Scans.{refused, cells-most}
+use Rattle.refusal.specs.Refusals.{Verdict}
 
 -- ---- with the three bytes apart
 

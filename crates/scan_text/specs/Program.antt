@@ -2,12 +2,12 @@
 use Rattle.std.specs.Prelude.{false, List, [], ◌∷◌, ◌++◌, ℕ, ◌+◌, ◌*◌, ltb, length}
 use Rattle.geometry.specs.declared.Head.{Head}
 use Rattle.geometry.specs.declared.Plunge.{Plunge}
-use Rattle.refusal.specs.declared.Verdict.{Verdict}
 use Rattle.refusal.specs.Refusals.{trial, first_met, map_trials, head_of, largest_side}
 use Rattle.fields.specs.Fields.{file_length}
 use Rattle.jobs.specs.Calls.{listed}
 use Rattle.scan.specs.Scan.{byte_in, depths}
 use Rattle.text_lines.specs.Text.{answer_text, line_room}
+use Rattle.refusal.specs.Refusals.{Verdict}
 
 -- "Its file buffer is 65,536 bytes."
 abbrev pub file_buffer : ℕ

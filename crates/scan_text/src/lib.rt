@@ -8,7 +8,6 @@ ghost use Rattle.text_lines.specs.Text.{list_text};
 ghost use Rattle.scan_text.specs.Program.{file_buffer, most_cells, text_room, plate_in, plunges_of, plunges_text};
 ghost use Rattle.scan_text.specs.Listed.{ListedFile};
 
-use listing::ListAnswer;
 use reading::Job;
 
 const SIDE: usize = refusal::LARGEST_SIDE as usize;
@@ -69,8 +68,8 @@ pub fn put_text(text: &mut [u8], scan: &[u8]) -> usize
     let mut b = cells();
     let answer = scan_listing::list_scan(scan, &mut file, &mut a, &mut b);
     match answer {
-        ListAnswer::Unlisted(refusal) => text_lines::put_refusal(text, refusal),
-        ListAnswer::Listed(extent) => {
+        Err(refusal) => text_lines::put_refusal(text, refusal),
+        Ok(extent) => {
             let bytes = extent.bytes;
             put_list(text, scan, &file[..bytes], extent.plunges)
         }

@@ -1,4 +1,5 @@
 -- What is written is loaded again, a field that is loaded is the one that is written, and the table in force keeps the rule whatever is loaded.
+use Rattle.std.specs.Prelude.{Ok, Err}
 use mathlib.Core.Path.{◌≡◌, refl, sym, ap, ap₂, ◌∙◌, subst}
 use mathlib.Core.List.{List, [], ◌∷◌, ◌++◌}
 use Prim.Native.Nat.{ℕ, zero, suc, ◌+◌, ◌-◌, ◌*◌, ◌/◌, ◌%◌, ◌≤◌, ◌<◌}
@@ -9,8 +10,6 @@ use lib.ListN.{length, get_or, drop, take}
 use lib.Seq.{get_or-drop, ext_get_or, take-append_seam}
 use Rattle.geometry.specs.Lists.{gather}
 use Rattle.theory.proofs.Lists.{gather-same, length-each, get_or-each}
-use Rattle.refusal.specs.declared.Verdict.{Verdict}
-use Rattle.refusal.specs.declared.Verdict.TheVariants.{Accepted, Refused}
 use Rattle.refusal.specs.Refusals.{first_met, written, Answered}
 use Rattle.refusal.proofs.Trials.{and_then, first-append, both-accepted}
 use Rattle.fields.specs.Fields.{opening}
@@ -21,6 +20,7 @@ use Rattle.table_field.specs.Tables.{table_tag, table_size, table_bytes, entry_p
 use Rattle.table_field.proofs.Rules.{accepted-rule, rule-accepted}
 use Rattle.table_field.proofs.Writes.{pair, bytes-length, field-length}
 use Rattle.table_field.proofs.Loads.{whole, Whole}
+use Rattle.refusal.specs.Refusals.{Verdict}
 
 -- ---- the bytes of entries
 
@@ -70,10 +70,10 @@ entries-back table e =
 -- ---- what is written is loaded again
 
 module _ (table : List ℕ) where
-  field-accepted : first_met (field_trials (table_field table)) ≡ Accepted
+  field-accepted : first_met (field_trials (table_field table)) ≡ Ok tt
   field-accepted = rw (field-length table, bytes-length table) refl
 
-  pub loads-again : length table ≡ table_entries → Rule table → load_verdict (table_field table) ≡ Accepted
+  pub loads-again : length table ≡ table_entries → Rule table → load_verdict (table_field table) ≡ Ok tt
   loads-again e r =
       first-append (field_trials (table_field table)) (rule_trials (entries_in (table_field table)))
       ∙ ap (λ (u : Verdict). and_then u (first_met (rule_trials (entries_in (table_field table))))) field-accepted
@@ -82,22 +82,22 @@ module _ (table : List ℕ) where
 
 -- a table that was written, read back from where it was written
 pub round_trip : (table out now old back : List ℕ) (r : Verdict) → length table ≡ table_entries
-    → Answered (write_verdict table out) (table_field table) out now Accepted → Loaded (take table_bytes now) old back r → (r ≡ Accepted) × (back ≡ table)
+    → Answered (write_verdict table out) (table_field table) out now (Ok tt) → Loaded (take table_bytes now) old back r → (r ≡ Ok tt) × (back ≡ table)
 round_trip table out now old back r e w l =
-    let v : write_verdict table out ≡ Accepted = sym w.answer in
+    let v : write_verdict table out ≡ (Ok tt) = sym w.answer in
     let t : Rule table = accepted-rule table (both-accepted (first_met (rule_trials table)) _ (sym (first-append (rule_trials table) _) ∙ v)).0 in
     let f : take table_bytes now ≡ table_field table =
     ap (take table_bytes) (w.bytes ∙ ap (λ (u : Verdict). written u (table_field table) out) v)
     ∙ ap (λ (n : ℕ). take n (table_field table ++ drop (length (table_field table)) out)) (sym (field-length table))
     ∙ take-append_seam (table_field table) (drop (length (table_field table)) out) in
-    let a : load_verdict (take table_bytes now) ≡ Accepted = ap load_verdict f ∙ loads-again table e t in (
+    let a : load_verdict (take table_bytes now) ≡ (Ok tt) = ap load_verdict f ∙ loads-again table e t in (
       l.answer ∙ a,
       l.table ∙ ap (λ (u : Verdict). in_force u (entries_in (take table_bytes now)) old) a ∙ ap entries_in f ∙ entries-back table e,
     )
 
 -- ---- a field that is loaded is the field of its table: no two fields load the same
 
-module _ (f : List ℕ) (bytes : (i : ℕ) → get_or f i 0 < 256) (ok : load_verdict f ≡ Accepted) where
+module _ (f : List ℕ) (bytes : (i : ℕ) → get_or f i 0 < 256) (ok : load_verdict f ≡ Ok tt) where
   is_whole : Whole f
   is_whole = whole f (both-accepted (first_met (field_trials f)) _ (sym (first-append (field_trials f) (rule_trials (entries_in f))) ∙ ok)).0
 
@@ -147,6 +147,6 @@ pub in-force-rule : (f old now : List ℕ) (r : Verdict) → Rule old → Loaded
 in-force-rule f old now r rule l = subst Rule (sym l.table) (go (load_verdict f) refl)
   where
     go : (v : Verdict) → load_verdict f ≡ v → Rule (in_force v (entries_in f) old)
-    go Accepted e = accepted-rule (entries_in f)
+    go (Ok tt) e = accepted-rule (entries_in f)
         (both-accepted (first_met (field_trials f)) (first_met (rule_trials (entries_in f))) (sym (first-append (field_trials f) (rule_trials (entries_in f))) ∙ e)).1
-    go (Refused q) e = rule
+    go (Err q) e = rule

@@ -1,13 +1,12 @@
 -- To be believed: a sink table as a field: its bytes, what is tried of them, what loading leaves in force, and what writing gives (document 02, N6).
-use Rattle.std.specs.Prelude.{◌≡◌, List, [], ◌∷◌, ◌++◌, ℕ, ◌+◌, ◌*◌, ltb, length, get_or}
+use Rattle.std.specs.Prelude.{◌≡◌, List, [], ◌∷◌, ◌++◌, ℕ, ◌+◌, ◌*◌, ltb, length, get_or, Ok, Err}
 use Rattle.geometry.specs.Lists.{gather}
-use Rattle.refusal.specs.declared.Verdict.{Verdict}
-use Rattle.refusal.specs.declared.Verdict.TheVariants.{Accepted, Refused}
 use Rattle.refusal.specs.Refusals.{Trial, trial, first_met}
 use Rattle.fields.specs.Fields.{two, opening, field}
 use Rattle.reading_fields.specs.Openings.{pair_at, opens, open_trials}
 use Rattle.sink.specs.Sink.{table_entries}
 use Rattle.sink.specs.Rule.{breaks_rule}
+use Rattle.refusal.specs.Refusals.{Verdict}
 
 -- ---- the bytes: the one home of these numbers
 
@@ -57,8 +56,8 @@ load_verdict f = first_met (field_trials f ++ rule_trials (entries_in f))
 
 -- the table in force after a load: "A refused load keeps the table in force."
 abbrev pub in_force : Verdict → List ℕ → List ℕ → List ℕ
-in_force Accepted new old = new
-in_force (Refused r) new old = old
+in_force (Ok tt) new old = new
+in_force (Err r) new old = old
 
 pub record Loaded (f old now : List ℕ) (r : Verdict) : Type 0 where
   pub answer : r ≡ load_verdict f

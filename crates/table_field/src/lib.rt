@@ -1,8 +1,7 @@
 // A shop's sink table as a field: loaded in place of the table in force, and written.
 #![tactic(auto)]
 
-ghost use Rattle.std.specs.Prelude.{◌≡◌, ◌≤◌, length};
-ghost use Rattle.refusal.specs.declared.Verdict.TheVariants.{Accepted};
+ghost use Rattle.std.specs.Prelude.{◌≡◌, ◌≤◌, length, Ok};
 ghost use Rattle.refusal.specs.Refusals.{first_met, Answered};
 ghost use Rattle.fields.specs.Fields.{opening};
 ghost use Rattle.fields.specs.Writing.{spliced};
@@ -42,7 +41,7 @@ pub fn check_rule(table: &[u16; ENTRIES]) -> Verdict
         }
         i += 1;
     }
-    Verdict::Accepted
+    Ok(())
 }
 
 // ---- loading
@@ -55,16 +54,11 @@ fn check_field(field: &[u8]) -> Verdict
         tag: TABLE_TAG,
         size: TABLE_SIZE,
     };
-    let opened = reading_fields::check_open(field, 0, table, table);
-    match opened {
-        Verdict::Refused(r) => Verdict::Refused(r),
-        Verdict::Accepted => {
-            if TABLE_BYTES < field.len() {
-                return refusal::refuse(11, TABLE_BYTES);
-            }
-            Verdict::Accepted
-        }
+    reading_fields::check_open(field, 0, table, table)?;
+    if TABLE_BYTES < field.len() {
+        return refusal::refuse(11, TABLE_BYTES);
     }
+    Ok(())
 }
 
 // The entries of a field that is whole.
@@ -84,30 +78,22 @@ fn read_entries(field: &[u8], entries: &mut [u16; ENTRIES])
 
 // Loads the entries of a field that is whole, if none breaks the rule.
 fn load_entries(field: &[u8], table: &mut [u16; ENTRIES]) -> Verdict
-    requires { first_met (field_trials field.now) ≡ Accepted }
+    requires { first_met (field_trials field.now) ≡ Ok tt }
     ensures { Loaded field.now table.old table.new result }
 {
     let mut entries = [0u16; ENTRIES];
     read_entries(field, &mut entries);
-    let verdict = check_rule(&entries);
-    match verdict {
-        Verdict::Refused(r) => Verdict::Refused(r),
-        Verdict::Accepted => {
-            *table = entries;
-            Verdict::Accepted
-        }
-    }
+    check_rule(&entries)?;
+    *table = entries;
+    Ok(())
 }
 
 // Loads a table from a field of any bytes. Refusals 6, 7, 11, 15; a refused load keeps the table in force.
 pub fn load(field: &[u8], table: &mut [u16; ENTRIES]) -> Verdict
     ensures { Loaded field.now table.old table.new result }
 {
-    let whole = check_field(field);
-    match whole {
-        Verdict::Refused(r) => Verdict::Refused(r),
-        Verdict::Accepted => load_entries(field, table),
-    }
+    check_field(field)?;
+    load_entries(field, table)
 }
 
 // ---- writing
@@ -143,15 +129,10 @@ pub fn write(table: &[u16; ENTRIES], out: &mut [u8]) -> Verdict
     ensures { Answered (write_verdict table.now out.old) (table_field table.now)
         out.old out.new result }
 {
-    let verdict = check_rule(table);
-    match verdict {
-        Verdict::Refused(r) => Verdict::Refused(r),
-        Verdict::Accepted => {
-            if out.len() < TABLE_BYTES {
-                return refusal::refuse(5, TABLE_BYTES);
-            }
-            put_field(table, out);
-            Verdict::Accepted
-        }
+    check_rule(table)?;
+    if out.len() < TABLE_BYTES {
+        return refusal::refuse(5, TABLE_BYTES);
     }
+    put_field(table, out);
+    Ok(())
 }

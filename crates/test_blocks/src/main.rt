@@ -3,7 +3,6 @@
 
 ghost use Rattle.std.specs.Prelude.{◌≡◌, length};
 
-use listing::ListAnswer;
 use refusal::Verdict;
 use test_io::{STDOUT_FILENO, UNTOUCHED, part, print_next, print_refusal, print_rest, print_text};
 
@@ -59,14 +58,14 @@ fn print_file(plate: Plate, file: &[u8]) {
 }
 
 // An answer of listing or tidying, and whether the bytes past the file are as before; gives the file's length, 0 if there is none.
-fn print_answer(answer: ListAnswer, out: &[u8]) -> usize {
+fn print_answer(answer: Result<Extent, Refusal>, out: &[u8]) -> usize {
     match answer {
-        ListAnswer::Listed(extent) => {
+        Ok(extent) => {
             test_io::print_listed(extent.bytes, extent.plunges, extent.erosions);
             print_rest(out, extent.bytes);
             extent.bytes
         }
-        ListAnswer::Unlisted(refusal) => {
+        Err(refusal) => {
             print_refusal(refusal);
             print_rest(out, 0);
             0
@@ -152,8 +151,8 @@ fn run_check(file: &[u8]) {
     print_text(b"check: ");
     let verdict = job_check::check(file, &mut a, &mut b, &mut c);
     match verdict {
-        Verdict::Accepted => print_text(b"tidy\n"),
-        Verdict::Refused(refusal) => print_refusal(refusal),
+        Ok(()) => print_text(b"tidy\n"),
+        Err(refusal) => print_refusal(refusal),
     }
 }
 

@@ -3,13 +3,10 @@
 
 use job_check::check;
 use jobs::{draw, list, tidy};
-use listing::ListAnswer;
-use reading::{Job, ReadAnswer};
+use reading::Job;
 use refusal::{Refusal, Verdict};
 use scan::byte_in;
-use test_io::{
-    STDIN_FILENO, both, is_kept, part, print_next, print_refusal, print_rest, print_text, word,
-};
+use test_io::{STDIN_FILENO, both, is_kept, part, print_next, print_refusal, print_rest, print_text, word};
 use test_records::{CELLS_ROOM, FILE_ROOM, between, cells_room, file_room, size_of};
 
 // The fixed bytes of a record.
@@ -155,15 +152,15 @@ fn print_work(a: &[u8], b: &[u8], c: &[u8], from: usize) {
 }
 
 // An answer of listing or tidying, its file, and the buffers' other bytes; gives the file's length, 0 if there is none.
-fn print_list(answer: ListAnswer, cells: usize, out: &[u8], a: &[u8], b: &[u8], c: &[u8]) -> usize {
+fn print_list(answer: Result<Extent, Refusal>, cells: usize, out: &[u8], a: &[u8], b: &[u8], c: &[u8]) -> usize {
     match answer {
-        ListAnswer::Listed(extent) => {
+        Ok(extent) => {
             test_io::print_listed(extent.bytes, extent.plunges, extent.erosions);
             print_output(out, extent.bytes);
             print_work(a, b, c, cells);
             extent.bytes
         }
-        ListAnswer::Unlisted(refusal) => {
+        Err(refusal) => {
             print_refusal(refusal);
             print_output(out, 0);
             print_work(a, b, c, free_after(refusal, cells));
@@ -178,8 +175,8 @@ fn run_read(file: &[u8]) {
     print_text(b"read : ");
     let answer = reading::read(file);
     match answer {
-        ReadAnswer::Readable(job) => print_job(job),
-        ReadAnswer::Unreadable(refusal) => print_refusal(refusal),
+        Ok(job) => print_job(job),
+        Err(refusal) => print_refusal(refusal),
     }
 }
 
@@ -187,11 +184,11 @@ fn run_read(file: &[u8]) {
 fn draw_into(file: &[u8], cells: usize, out: &mut [u8]) {
     let verdict = draw(file, out);
     match verdict {
-        Verdict::Accepted => {
+        Ok(()) => {
             print_text(b"drawn\n");
             print_output(out, cells);
         }
-        Verdict::Refused(refusal) => {
+        Err(refusal) => {
             print_refusal(refusal);
             print_output(out, 0);
         }
@@ -251,11 +248,11 @@ fn run_tidy(record: Record, file: &[u8]) {
 fn check_with(file: &[u8], cells: usize, a: &mut [u8], b: &mut [u8], c: &mut [u8]) {
     let verdict = check(file, a, b, c);
     match verdict {
-        Verdict::Accepted => {
+        Ok(()) => {
             print_text(b"tidy\n");
             print_work(a, b, c, cells);
         }
-        Verdict::Refused(refusal) => {
+        Err(refusal) => {
             print_refusal(refusal);
             print_work(a, b, c, free_after(refusal, cells));
         }

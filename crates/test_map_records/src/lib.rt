@@ -1,8 +1,6 @@
 // Runs every map call on plates and buffers that records describe, and prints what comes back.
 #![tactic(auto)]
 
-use clearance_cell::CellAnswer;
-use erosion_maps::VolumeAnswer;
 use refusal::Verdict;
 use residue_scores::Score;
 use scan::byte_in;
@@ -85,16 +83,16 @@ fn print_value(value: u64) {
 
 fn print_verdict(verdict: Verdict) {
     match verdict {
-        Verdict::Accepted => print_text(b"ok\n"),
-        Verdict::Refused(refusal) => test_io::print_refusal(refusal),
+        Ok(()) => print_text(b"ok\n"),
+        Err(refusal) => test_io::print_refusal(refusal),
     }
 }
 
 // After a refusal, whether the work buffers are as before.
 fn print_work(verdict: Verdict, a: &[u8], b: &[u8]) {
     match verdict {
-        Verdict::Accepted => {}
-        Verdict::Refused(_) => {
+        Ok(()) => {}
+        Err(_) => {
             let kept = test_io::both(test_io::is_kept(a, 0), test_io::is_kept(b, 0));
             test_io::print_kept(b"work", kept);
         }
@@ -114,16 +112,16 @@ fn run_cell(record: Record, relief: &[u8]) {
         record.y,
     );
     match answer {
-        CellAnswer::Cleared(clearance) => print_value(clearance.0 as u64),
-        CellAnswer::NotCleared(refusal) => test_io::print_refusal(refusal),
+        Ok(clearance) => print_value(clearance.0 as u64),
+        Err(refusal) => test_io::print_refusal(refusal),
     }
 }
 
 fn run_volume(record: Record, relief: &[u8]) {
     let answer = erosion_maps::volume(relief, record.width, record.height);
     match answer {
-        VolumeAnswer::Volume(volume) => print_value(volume as u64),
-        VolumeAnswer::NoVolume(refusal) => test_io::print_refusal(refusal),
+        Ok(volume) => print_value(volume as u64),
+        Err(refusal) => test_io::print_refusal(refusal),
     }
 }
 

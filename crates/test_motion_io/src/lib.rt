@@ -1,7 +1,6 @@
 // What the test programs of motions share: floats and motions printed to the last bit.
 #![tactic(auto)]
 
-use motion::MotionAnswer;
 use motion_floats::{Motion, Motions};
 use test_io::print_text;
 
@@ -45,9 +44,9 @@ fn print_motions(motions: Motions) {
 }
 
 // The three motions of a plunge, or the refusal, in a line.
-pub fn print_answer(answer: MotionAnswer) {
+pub fn print_answer(answer: Result<Motions, Refusal>) {
     match answer {
-        MotionAnswer::Moves(motions) => print_motions(motions),
-        MotionAnswer::NoMoves(refusal) => test_io::print_refusal(refusal),
+        Ok(motions) => print_motions(motions),
+        Err(refusal) => test_io::print_refusal(refusal),
     }
 }

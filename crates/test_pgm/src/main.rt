@@ -3,7 +3,7 @@
 
 ghost use Rattle.std.specs.Prelude.{◌≤◌};
 
-use pgm::{PictureAnswer, PictureFault};
+use pgm::PictureFault;
 use pgm_copies::CopyAnswer;
 use scan::byte_in;
 use test_io::{STDIN_FILENO, print_next, print_text, word};
@@ -56,16 +56,16 @@ fn print_fault(fault: PictureFault) {
     print_text(b"\n");
 }
 
-fn print_picture(answer: PictureAnswer) {
+fn print_picture(answer: Result<Picture, PictureFault>) {
     match answer {
-        PictureAnswer::Found(picture) => {
+        Ok(picture) => {
             print_text(b"picture");
             print_next(picture.width as u64);
             print_next(picture.height as u64);
             print_next(picture.at as u64);
             print_text(b"\n");
         }
-        PictureAnswer::Faulty(fault) => print_fault(fault),
+        Err(fault) => print_fault(fault),
     }
 }
 

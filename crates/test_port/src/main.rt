@@ -152,8 +152,8 @@ fn second_half(port: Port) -> u32 {
 // A refusal's number and its place in one number, 0 of what is accepted.
 fn verdict_number(verdict: Verdict) -> u32 {
     match verdict {
-        Verdict::Accepted => 0,
-        Verdict::Refused(refusal) => {
+        Ok(()) => 0,
+        Err(refusal) => {
             two_words((refusal.place % 65536) as u16, refusal.number as u16)
         }
     }
@@ -179,8 +179,8 @@ fn is_same(a: Port, b: Port) -> bool {
 
 fn is_accepted(verdict: Verdict) -> bool {
     match verdict {
-        Verdict::Accepted => true,
-        Verdict::Refused(_) => false,
+        Ok(()) => true,
+        Err(_) => false,
     }
 }
 
@@ -197,8 +197,8 @@ fn print_port(port: Port) {
 
 fn print_verdict(verdict: Verdict) {
     match verdict {
-        Verdict::Accepted => print_text(b"accepted\n"),
-        Verdict::Refused(refusal) => test_io::print_refusal(refusal),
+        Ok(()) => print_text(b"accepted\n"),
+        Err(refusal) => test_io::print_refusal(refusal),
     }
 }
 
@@ -263,11 +263,11 @@ fn tallied(tally: Tally, before: Port, answer: PortAnswer) -> Tally {
     let mut out = tally;
     out.sum = with_answer(tally.sum, answer);
     match verdict {
-        Verdict::Accepted => {
+        Ok(()) => {
             out.accepted = one_more(tally.accepted);
             out
         }
-        Verdict::Refused(refusal) => with_refusal(out, refusal.number, is_same(before, port)),
+        Err(refusal) => with_refusal(out, refusal.number, is_same(before, port)),
     }
 }
 

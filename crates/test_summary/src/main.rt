@@ -4,7 +4,7 @@
 ghost use Rattle.std.specs.Prelude.{◌≤◌};
 ghost use Rattle.reading.specs.Steps.{JobOf};
 
-use reading::{Job, ReadAnswer};
+use reading::Job;
 use scan::byte_in;
 use test_io::{STDIN_FILENO, UNTOUCHED, is_kept, word};
 use test_records::{between, cells_room, size_of};
@@ -31,10 +31,10 @@ fn print_summary(page: &mut [u8], place: usize, file: &[u8], job: Job)
 fn run_file(page: &mut [u8], place: usize, file: &[u8]) {
     let answer = reading::read(file);
     match answer {
-        ReadAnswer::Unreadable(r) => {
+        Err(r) => {
             test_io::print_refusal(r);
         }
-        ReadAnswer::Readable(job) => {
+        Ok(job) => {
             print_summary(page, place, file, job);
         }
     }

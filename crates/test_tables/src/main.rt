@@ -153,8 +153,8 @@ fn table_in(field: &[u8]) -> [u16; ENTRIES] {
 
 fn print_verdict(done: &[u8], verdict: Verdict) {
     match verdict {
-        Verdict::Accepted => print_text(done),
-        Verdict::Refused(refusal) => print_refusal(refusal),
+        Ok(()) => print_text(done),
+        Err(refusal) => print_refusal(refusal),
     }
 }
 
@@ -174,8 +174,8 @@ fn print_table(table: &[u16; ENTRIES]) {
     let mut out = [UNTOUCHED; TABLE_BYTES];
     let verdict = table_field::write(table, &mut out);
     match verdict {
-        Verdict::Accepted => test_io::print_bytes(&out),
-        Verdict::Refused(refusal) => print_refusal(refusal),
+        Ok(()) => test_io::print_bytes(&out),
+        Err(refusal) => print_refusal(refusal),
     }
 }
 
@@ -189,13 +189,13 @@ fn run_load(record: Record, field: &[u8]) {
 fn write_into(table: &[u16; ENTRIES], out: &mut [u8]) {
     let verdict = table_field::write(table, out);
     match verdict {
-        Verdict::Accepted => {
+        Ok(()) => {
             let end = part(out, TABLE_BYTES);
             print_text(b"written\n");
             test_io::print_bytes(&out[..end]);
             test_io::print_rest(out, end);
         }
-        Verdict::Refused(refusal) => {
+        Err(refusal) => {
             print_refusal(refusal);
             test_io::print_rest(out, 0);
         }

@@ -1,13 +1,12 @@
 -- To be believed: document 01's text of a list and of a refusal, in ASCII.
-use Rattle.std.specs.Prelude.{List, [], ◌∷◌, ◌++◌, ℕ, length}
+use Rattle.std.specs.Prelude.{List, [], ◌∷◌, ◌++◌, ℕ, length, Ok, Err}
 use Rattle.geometry.specs.declared.Head.{Head}
 use Rattle.geometry.specs.declared.Plunge.{Plunge}
 use Rattle.geometry.specs.Forms.{kind_byte}
 use Rattle.refusal.specs.declared.Refusal.{Refusal}
-use Rattle.refusal.specs.declared.Verdict.{Verdict}
-use Rattle.refusal.specs.declared.Verdict.TheVariants.{Accepted, Refused}
 use Rattle.numerals.specs.Numerals.{numeral}
 use Rattle.phrases.specs.Phrases.{ascii}
+use Rattle.refusal.specs.Refusals.{Verdict}
 
 -- a number and the character after it: a blank is 32, a line's end 10
 abbrev pub word : ℕ → ℕ → List ℕ
@@ -52,8 +51,8 @@ tidy_line = ascii "tidy\n"
 
 -- the text of a verdict on a list: the list's, or the refusal's one line
 abbrev pub answer_text : Verdict → Head → List Plunge → List ℕ
-answer_text Accepted p qs = list_text p qs
-answer_text (Refused r) p qs = refusal_line r
+answer_text (Ok tt) p qs = list_text p qs
+answer_text (Err r) p qs = refusal_line r
 
 -- room for any line, in bytes
 abbrev pub line_room : ℕ

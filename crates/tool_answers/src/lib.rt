@@ -4,12 +4,11 @@
 ghost use Rattle.std.specs.Prelude.{◌≤◌, length};
 ghost use Rattle.reading.specs.Steps.{JobOf};
 
-use listing::{Extent, ListAnswer};
-use motion::MotionAnswer;
+use listing::Extent;
 use motion_floats::Scale;
 use pgm::PictureFault;
 use pgm_copies::CopyAnswer;
-use reading::{Job, ReadAnswer};
+use reading::Job;
 use refusal::{Refusal, Verdict};
 use tool_words::Command;
 
@@ -25,17 +24,17 @@ pub enum Outcome {
 // The cells of the largest plate.
 const CELLS: usize = (refusal::LARGEST_SIDE as usize) * (refusal::LARGEST_SIDE as usize);
 
-fn of_list(answer: ListAnswer) -> Outcome {
+fn of_list(answer: Result<Extent, Refusal>) -> Outcome {
     match answer {
-        ListAnswer::Listed(extent) => Outcome::Listed(extent),
-        ListAnswer::Unlisted(refusal) => Outcome::Refused(refusal),
+        Ok(extent) => Outcome::Listed(extent),
+        Err(refusal) => Outcome::Refused(refusal),
     }
 }
 
 fn of_verdict(verdict: Verdict, bytes: usize) -> Outcome {
     match verdict {
-        Verdict::Accepted => Outcome::Done(bytes),
-        Verdict::Refused(refusal) => Outcome::Refused(refusal),
+        Ok(()) => Outcome::Done(bytes),
+        Err(refusal) => Outcome::Refused(refusal),
     }
 }
 
@@ -59,8 +58,8 @@ fn draw(file: &[u8], out: &mut [u8]) -> Outcome {
     }
     let verdict = jobs::draw(file, &mut out[3..]);
     match verdict {
-        Verdict::Refused(refusal) => Outcome::Refused(refusal),
-        Verdict::Accepted => {
+        Err(refusal) => Outcome::Refused(refusal),
+        Ok(()) => {
             let width = scan::byte_in(file, 4);
             let height = scan::byte_in(file, 5);
             put_start(out, scan::byte_in(file, 3), width, height);
@@ -72,8 +71,8 @@ fn draw(file: &[u8], out: &mut [u8]) -> Outcome {
 fn show(file: &[u8]) -> Outcome {
     let answer = reading::read(file);
     match answer {
-        ReadAnswer::Readable(_) => Outcome::Done(0),
-        ReadAnswer::Unreadable(refusal) => Outcome::Refused(refusal),
+        Ok(_) => Outcome::Done(0),
+        Err(refusal) => Outcome::Refused(refusal),
     }
 }
 
@@ -81,8 +80,8 @@ fn show(file: &[u8]) -> Outcome {
 fn motions(file: &[u8], scale: Scale) -> Outcome {
     let answer = motion::built_in_motions(file, 0, scale);
     match answer {
-        MotionAnswer::Moves(_) => Outcome::Done(0),
-        MotionAnswer::NoMoves(refusal) => {
+        Ok(_) => Outcome::Done(0),
+        Err(refusal) => {
             if refusal.number == 14 {
                 return Outcome::Done(0);
             }
@@ -96,8 +95,8 @@ fn show_table(field: &[u8], out: &mut [u8]) -> Outcome {
     let mut table = sink::built_in();
     let verdict = table_field::load(field, &mut table);
     match verdict {
-        Verdict::Refused(refusal) => Outcome::Refused(refusal),
-        Verdict::Accepted => Outcome::Done(table_text::append_table(out, 0, &table)),
+        Err(refusal) => Outcome::Refused(refusal),
+        Ok(()) => Outcome::Done(table_text::append_table(out, 0, &table)),
     }
 }
 
@@ -136,8 +135,8 @@ fn summarize(
 fn info(file: &[u8], out: &mut [u8], a: &mut [u8], b: &mut [u8], c: &mut [u8]) -> Outcome {
     let answer = reading::read(file);
     match answer {
-        ReadAnswer::Readable(job) => summarize(file, job, out, a, b, c),
-        ReadAnswer::Unreadable(refusal) => Outcome::Refused(refusal),
+        Ok(job) => summarize(file, job, out, a, b, c),
+        Err(refusal) => Outcome::Refused(refusal),
     }
 }
 
@@ -162,8 +161,8 @@ fn picture_of_scan(scan: &[u8], out: &mut [u8]) -> Outcome {
     let depths = scan::depths(scan);
     let verdict = refusal::check_map(scan::byte_in(scan, 0), width, height, false, depths.len());
     match verdict {
-        Verdict::Refused(refusal) => Outcome::Refused(refusal),
-        Verdict::Accepted => of_copy(pgm_copies::put_picture(width, height, depths, out)),
+        Err(refusal) => Outcome::Refused(refusal),
+        Ok(()) => of_copy(pgm_copies::put_picture(width, height, depths, out)),
     }
 }
 
@@ -171,8 +170,8 @@ fn picture_of_scan(scan: &[u8], out: &mut [u8]) -> Outcome {
 fn picture_of_job(file: &[u8], out: &mut [u8], c: &mut [u8]) -> Outcome {
     let verdict = jobs::draw(file, c);
     match verdict {
-        Verdict::Refused(refusal) => Outcome::Refused(refusal),
-        Verdict::Accepted => {
+        Err(refusal) => Outcome::Refused(refusal),
+        Ok(()) => {
             let width = scan::byte_in(file, 4) as u16;
             let height = scan::byte_in(file, 5) as u16;
             of_copy(pgm_copies::put_picture(width, height, c, out))

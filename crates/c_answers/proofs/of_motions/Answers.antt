@@ -2,5 +2,5 @@
 use Rattle.sink.proofs.Literals.{literal-0}
 use Rattle.c_answers.proofs.of_motions.Goals as goal
 
-pub returns-in-NoMoves : goal.returns-in-NoMoves
-returns-in-NoMoves c = simp (c.in-NoMoves.is, literal-0)
+pub returns-in-Err : goal.returns-in-Err
+returns-in-Err c = simp (c.in-Err.is, literal-0)

@@ -9,7 +9,7 @@ nearest_wall-nearest-requires c =
     Judged given.relief.now given.kind given.width given.height given.level given.column given.row c.check_map-verdict.result = let c = c in record
     { wrong = c.is_wrong_cell-wrong.result; tested = c.is_wrong_cell-wrong.ensures; first = c.check_map-verdict.ensures } in
     let ready : let c = c in let given = c.args in
-    Ready c.head_of-head.result given.relief.now given.level given.column given.row = let c = c in rw c.head_of-head.ensures (accepted (judged) c.in-Accepted.is) in (ready).asked
+    Ready c.head_of-head.result given.relief.now given.level given.column given.row = let c = c in rw c.head_of-head.ensures (accepted (judged) c.in-Ok.is) in (ready).asked
 
 pub overflow_cast-result : goal.overflow_cast-result
 overflow_cast-result c =
@@ -18,11 +18,11 @@ overflow_cast-result c =
     { wrong = c.is_wrong_cell-wrong.result; tested = c.is_wrong_cell-wrong.ensures; first = c.check_map-verdict.ensures } in
     let ready : let c = c in let given = c.args in
     Ready c.head_of-head.result given.relief.now given.level given.column given.row = let c = c in rw c.head_of-head.ensures
-    (accepted (judged) c.in-Accepted.is) in omega (arith, c.nearest_wall-nearest.ensures, (ready).fits)
+    (accepted (judged) c.in-Ok.is) in omega (arith, c.nearest_wall-nearest.ensures, (ready).fits)
 
-pub returns-in-Accepted : goal.returns-in-Accepted
-returns-in-Accepted c =
+pub returns-in-Ok : goal.returns-in-Ok
+returns-in-Ok c =
     let judged : let c = c in let given = c.args in
     Judged given.relief.now given.kind given.width given.height given.level given.column given.row c.check_map-verdict.result = let c = c in record
     { wrong = c.is_wrong_cell-wrong.result; tested = c.is_wrong_cell-wrong.ensures; first = c.check_map-verdict.ensures } in
-    rw (c.nearest_wall-nearest.ensures, c.head_of-head.ensures) (rw c.in-Accepted.is at (answered (judged)))
+    rw (c.nearest_wall-nearest.ensures, c.head_of-head.ensures) (rw c.in-Ok.is at (answered (judged)))

@@ -18,12 +18,12 @@ filter_map-requires c =
     c.clearance_map-verdict.new.out = let s = c.args in
     let g = c.clearance_map-verdict.ensures in
     accepted-mapped s.kind s.width s.height (not (is_level s.level)) s.relief.now s.out.now
-    (sym g.answer ∙ c.in-Accepted.is) (λ p. clearance p s.relief.now s.level) _ _ _
+    (sym g.answer ∙ c.in-Ok.is) (λ p. clearance p s.relief.now s.level) _ _ _
     c.head_of.ensures g in
     let s = c.args in
     let g =
     accepted-plates s.kind s.width s.height (not (is_level s.level)) s.relief.now s.out.now
-    (sym c.clearance_map-verdict.ensures.answer ∙ c.in-Accepted.is) _
+    (sym c.clearance_map-verdict.ensures.answer ∙ c.in-Ok.is) _
     c.head_of.ensures in
     record {
       sides = g.sides;
@@ -32,17 +32,17 @@ filter_map-requires c =
       zeros = λ h. absurd (omega arith);
     }
 
-pub returns-in-Accepted : goal.returns-in-Accepted
-returns-in-Accepted c =
+pub returns-in-Ok : goal.returns-in-Ok
+returns-in-Ok c =
     let mapped : let given = c.args in
     Mapped c.head_of.result (clearance c.head_of.result given.relief.now given.level) given.out.now
     c.clearance_map-verdict.new.out = let s = c.args in
     let g = c.clearance_map-verdict.ensures in
     accepted-mapped s.kind s.width s.height (not (is_level s.level)) s.relief.now s.out.now
-    (sym g.answer ∙ c.in-Accepted.is) (λ p. clearance p s.relief.now s.level) _ _ _
+    (sym g.answer ∙ c.in-Ok.is) (λ p. clearance p s.relief.now s.level) _ _ _
     c.head_of.ensures g in
     let s = c.args in
-    let a = sym c.clearance_map-verdict.ensures.answer ∙ c.in-Accepted.is in
+    let a = sym c.clearance_map-verdict.ensures.answer ∙ c.in-Ok.is in
     answered-accepted s.kind s.width s.height (not (is_level s.level)) s.relief.now s.out.now a
     (λ p. axis p s.relief.now s.level) _ _ c.head_of.ensures
     (axis-mapped _ s.relief.now s.level

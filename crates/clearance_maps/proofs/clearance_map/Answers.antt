@@ -23,14 +23,14 @@ transform-requires c =
     ∙ ap (λ (b : Bool). first_met (map_trials s.kind s.width s.height b (length s.relief.now ∷ length s.out.now ∷ [])))
     (byte-level s.level (omega (arith, c.ranges.level))) in
     let s = c.args in
-    let a = sym (said) ∙ c.in-Accepted.is in (
+    let a = sym (said) ∙ c.in-Ok.is in (
       accepted-plates s.kind s.width s.height (not (is_level s.level)) s.relief.now s.out.now a _
           c.head_of.ensures,
       accepted-level s.kind s.width s.height (not (is_level s.level)) s.relief.now s.out.now a s.level refl,
     )
 
-pub returns-in-Accepted : goal.returns-in-Accepted
-returns-in-Accepted c =
+pub returns-in-Ok : goal.returns-in-Ok
+returns-in-Ok c =
     let said : let given = c.args in
     c.check_map-verdict.result ≡ level_verdict given.relief.now given.kind given.width given.height given.level given.out.now = let s = c.args in
     by-shorter s.kind s.width s.height (eqb s.level 0) s.relief.now s.out.now _
@@ -39,6 +39,6 @@ returns-in-Accepted c =
     (byte-level s.level (omega (arith, c.ranges.level))) in
     let s = c.args in
     answered-accepted s.kind s.width s.height (not (is_level s.level)) s.relief.now s.out.now
-    (sym (said) ∙ c.in-Accepted.is)
+    (sym (said) ∙ c.in-Ok.is)
     (λ p. clearance p s.relief.now s.level) _ _ c.head_of.ensures
     c.transform.ensures

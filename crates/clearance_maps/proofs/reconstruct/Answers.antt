@@ -15,19 +15,19 @@ transform-requires c =
     by-shorter s.kind s.width s.height false s.map.now s.out.now _ c.smaller-shortest.ensures _
     c.check_map-verdict.ensures in
     let s = c.args in
-    let a = sym (said) ∙ c.in-Accepted.is in (
+    let a = sym (said) ∙ c.in-Ok.is in (
       accepted-plates s.kind s.width s.height false s.map.now s.out.now a _
           c.head_of.ensures,
       tt,
     )
 
-pub returns-in-Accepted : goal.returns-in-Accepted
-returns-in-Accepted c =
+pub returns-in-Ok : goal.returns-in-Ok
+returns-in-Ok c =
     let said : let given = c.args in
     c.check_map-verdict.result ≡ reconstruct_verdict given.map.now given.kind given.width given.height given.out.now = let s = c.args in
     by-shorter s.kind s.width s.height false s.map.now s.out.now _ c.smaller-shortest.ensures _
     c.check_map-verdict.ensures in
     let s = c.args in
     answered-accepted s.kind s.width s.height false s.map.now s.out.now
-    (sym (said) ∙ c.in-Accepted.is) (λ p. reconstructed p s.map.now)
+    (sym (said) ∙ c.in-Ok.is) (λ p. reconstructed p s.map.now)
     _ _ c.head_of.ensures c.transform.ensures

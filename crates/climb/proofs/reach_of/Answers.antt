@@ -2,8 +2,8 @@
 use Rattle.climb.proofs.Reaches.{reach-some}
 use Rattle.climb.proofs.reach_of.Goals as goal
 
-pub returns-in-NoReach : goal.returns-in-NoReach
-returns-in-NoReach c =
+pub returns-in-None : goal.returns-in-None
+returns-in-None c =
     absurd
     (reach-some c.args.number _ c.requires.0 c.requires.1
-    c.of_clearance-found.ensures c.in-NoReach.is)
+    c.of_clearance-found.ensures c.in-None.is)

@@ -18,14 +18,14 @@ fill-requires c =
     ∙ by-shortest s.kind s.width s.height (wrong_number s.asked) s.relief.now s.out.now s.a.now s.b.now
     c.shortest-room.result c.shortest-room.ensures in
     let s = c.args in
-    let e = sym (said) ∙ c.in-Accepted.is in (
+    let e = sym (said) ∙ c.in-Ok.is in (
       accepted-right s.kind s.width s.height (wrong_number s.asked) s.relief.now s.out.now s.a.now s.b.now e,
       accepted-buffers s.kind s.width s.height (wrong_number s.asked) s.relief.now s.out.now s.a.now s.b.now e _
           c.head_of.ensures,
     )
 
-pub returns-in-Accepted : goal.returns-in-Accepted
-returns-in-Accepted c =
+pub returns-in-Ok : goal.returns-in-Ok
+returns-in-Ok c =
     let said : let s = c.args in
     c.check_map-verdict.result ≡ four_verdict s.kind s.width s.height (wrong_number s.asked) s.relief.now s.out.now s.a.now s.b.now = let s = c.args in
     c.check_map-verdict.ensures
@@ -34,5 +34,5 @@ returns-in-Accepted c =
     c.shortest-room.result c.shortest-room.ensures in
     let s = c.args in
     left-filled s.kind s.width s.height (wrong_number s.asked) s.relief.now s.out.now s.a.now s.b.now
-    (sym (said) ∙ c.in-Accepted.is) (λ p. asked_map s.asked p s.relief.now) _ _ _ _
+    (sym (said) ∙ c.in-Ok.is) (λ p. asked_map s.asked p s.relief.now) _ _ _ _
     c.head_of.ensures c.fill.ensures

@@ -1,5 +1,5 @@
 -- `volume` refuses as the sides and the buffer say, and else gives the sum of the plate's bytes.
-use Rattle.erosion_maps.specs.declared.VolumeAnswer.TheVariants.{Volume}
+use Rattle.std.specs.Prelude.{Ok}
 use mathlib.Core.Path.{sym, ap, ◌∙◌}
 use mathlib.Core.Bool.{false}
 use native.Mathlib.Omega.{arith}
@@ -16,7 +16,7 @@ overflow_mul-height c =
     let given = c.args in
     let s =
     sound given.width given.height false (length given.relief.now)
-    (sym c.check_sides-verdict.ensures ∙ c.in-Accepted.is) in
+    (sym c.check_sides-verdict.ensures ∙ c.in-Ok.is) in
     omega (arith, area_small given.width given.height s.narrow s.low)
 
 pub depth_sum-requires : goal.depth_sum-requires
@@ -24,15 +24,15 @@ depth_sum-requires c =
     let given = c.args in
     let s =
     sound given.width given.height false (length given.relief.now)
-    (sym c.check_sides-verdict.ensures ∙ c.in-Accepted.is) in
+    (sym c.check_sides-verdict.ensures ∙ c.in-Ok.is) in
     (s.long, area_small given.width given.height s.narrow s.low)
 
-pub returns-in-Accepted : goal.returns-in-Accepted
-returns-in-Accepted c =
+pub returns-in-Ok : goal.returns-in-Ok
+returns-in-Ok c =
     let given = c.args in
     let s =
     sound given.width given.height false (length given.relief.now)
-    (sym c.check_sides-verdict.ensures ∙ c.in-Accepted.is) in
-    ap Volume (c.depth_sum.ensures ∙ volume-sum given.width given.height given.relief.now s.long) ∙ sym
+    (sym c.check_sides-verdict.ensures ∙ c.in-Ok.is) in
+    ap Ok (c.depth_sum.ensures ∙ volume-sum given.width given.height given.relief.now s.long) ∙ sym
     (ap (λ v. volume_answer v (volume (head_of 4 given.width given.height) given.relief.now))
-    (sym c.check_sides-verdict.ensures ∙ c.in-Accepted.is))
+    (sym c.check_sides-verdict.ensures ∙ c.in-Ok.is))

@@ -9,7 +9,7 @@ use Rattle.job_check.proofs.check.Goals as goal
 pub returns-then-room-cells_of : goal.returns-then-room-cells_of
 returns-then-room-cells_of c =
     let given = c.args in
-    let w = read-accepted given.file.now _ (sym c.in-Readable.is ∙ c.read-answer.ensures) in
+    let w = read-accepted given.file.now _ (sym c.in-Ok.is ∙ c.read-answer.ensures) in
     check-short given.file.now _ w given.a.now given.b.now given.c.now _
     c.shortest-room.ensures _ c.too_short.ensures
     (omega (arith, c.if-room-cells_of.true, c.cells_of.ensures))
@@ -17,7 +17,7 @@ returns-then-room-cells_of c =
 pub draw_into-requires : goal.draw_into-requires
 draw_into-requires c =
     let w =
-    read-accepted c.args.file.now _ (sym c.in-Readable.is ∙ c.read-answer.ensures) in
+    read-accepted c.args.file.now _ (sym c.in-Ok.is ∙ c.read-answer.ensures) in
     let a = draw-asks c.args.file.now _ w in (
       a.0,
       a.1,
@@ -27,22 +27,22 @@ draw_into-requires c =
 pub compare-requires : goal.compare-requires
 compare-requires c =
     let w =
-    read-accepted c.args.file.now _ (sym c.in-Readable.is ∙ c.read-answer.ensures) in
+    read-accepted c.args.file.now _ (sym c.in-Ok.is ∙ c.read-answer.ensures) in
     check-asks c.args.file.now _ w c.args.a.now c.args.b.now
     c.args.c.now _ c.shortest-room.ensures
     (omega (arith, c.if-room-cells_of.false, c.cells_of.ensures))
     (λ i. (c.type_inv.file i).fits) _ c.draw_into.ensures
 
-pub returns-in-Unreadable : goal.returns-in-Unreadable
-returns-in-Unreadable c =
+pub returns-in-Err : goal.returns-in-Err
+returns-in-Err c =
     let given = c.args in
     check-fault given.file.now _ given.a.now given.b.now given.c.now
-    (read-refused _ given.file.now _ (sym c.in-Unreadable.is ∙ c.read-answer.ensures))
+    (read-refused _ given.file.now _ (sym c.in-Err.is ∙ c.read-answer.ensures))
 
 pub returns-else-room-cells_of : goal.returns-else-room-cells_of
 returns-else-room-cells_of c =
     let given = c.args in
-    let w = read-accepted given.file.now _ (sym c.in-Readable.is ∙ c.read-answer.ensures) in
+    let w = read-accepted given.file.now _ (sym c.in-Ok.is ∙ c.read-answer.ensures) in
     check_done given.file.now _ w given.a.now given.b.now given.c.now _
     c.shortest-room.ensures (omega (arith, c.if-room-cells_of.false, c.cells_of.ensures)) _ _ _ _
     c.draw_into.ensures c.compare.ensures.0 c.compare.ensures.1

@@ -8,7 +8,7 @@ is_changed-changed-requires c =
     let given = c.args in (
       c.requires,
       asked-below given.file.now given.i given.scale given.job c.requires _
-          c.check_asked-asked.ensures c.in-Accepted.is,
+          c.check_asked-asked.ensures c.in-Ok.is,
     )
 
 pub nth_plunge-q-requires : goal.nth_plunge-q-requires
@@ -16,18 +16,18 @@ nth_plunge-q-requires c =
     let given = c.args in (
       c.requires,
       asked-below given.file.now given.i given.scale given.job c.requires _
-          c.check_asked-asked.ensures c.in-Accepted.is,
+          c.check_asked-asked.ensures c.in-Ok.is,
     )
 
-pub returns-in-Refused : goal.returns-in-Refused
-returns-in-Refused c =
+pub returns-in-Err : goal.returns-in-Err
+returns-in-Err c =
     let given = c.args in
     not-moved given.table.now given.file.now given.i given.scale given.job c.requires _
-    c.check_asked-asked.ensures _ c.in-Refused.is
+    c.check_asked-asked.ensures _ c.in-Err.is
 
-pub returns-in-Accepted : goal.returns-in-Accepted
-returns-in-Accepted c =
+pub returns-in-Ok : goal.returns-in-Ok
+returns-in-Ok c =
     let given = c.args in
     moves given.table.now given.file.now given.i given.scale given.job c.requires _
-    c.check_asked-asked.ensures c.in-Accepted.is _ _ _ _
+    c.check_asked-asked.ensures c.in-Ok.is _ _ _ _
     c.is_changed-changed.ensures c.nth_plunge-q.ensures refl c.motions_of.ensures

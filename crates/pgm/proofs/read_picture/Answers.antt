@@ -12,13 +12,13 @@ picture_of-requires c =
     (all-checked c.args.file.now c.header_of-header.result c.check_header.result
     c.check_samples.result c.first_of-check.result
     c.check_header.ensures c.check_samples.ensures
-    c.first_of-check.ensures) ∙ c.in-Passed.is)
+    c.first_of-check.ensures) ∙ c.in-Ok.is)
 
-pub returns-in-Passed : goal.returns-in-Passed
-returns-in-Passed c =
+pub returns-in-Ok : goal.returns-in-Ok
+returns-in-Ok c =
     answered c.args.file.now c.header_of-header.result c.first_of-check.result
     c.picture_of.result _ c.header_of-header.ensures
     (all-checked c.args.file.now c.header_of-header.result c.check_header.result
     c.check_samples.result c.first_of-check.result c.check_header.ensures
     c.check_samples.ensures c.first_of-check.ensures) c.picture_of.ensures
-    (sym (ap (λ k. answer_of k c.picture_of.result) c.in-Passed.is))
+    (sym (ap (λ k. answer_of k c.picture_of.result) c.in-Ok.is))

@@ -5,17 +5,17 @@ use Rattle.reading.proofs.read.Goals as goal
 pub read_fields-requires : goal.read_fields-requires
 read_fields-requires c = (
   head-begins c.args.file.now _ c.head_in.ensures
-      (sym c.check_head-verdict.ensures ∙ c.in-Accepted.is),
+      (sym c.check_head-verdict.ensures ∙ c.in-Ok.is),
   c.head_in.ensures,
   head-narrow c.args.file.now _ c.head_in.ensures
-      (sym c.check_head-verdict.ensures ∙ c.in-Accepted.is),
+      (sym c.check_head-verdict.ensures ∙ c.in-Ok.is),
 )
 
-pub returns-in-Accepted : goal.returns-in-Accepted
-returns-in-Accepted c =
+pub returns-in-Ok : goal.returns-in-Ok
+returns-in-Ok c =
     c.read_fields.ensures ∙ read-on c.args.file.now _ c.head_in.ensures
-    (sym c.check_head-verdict.ensures ∙ c.in-Accepted.is)
+    (sym c.check_head-verdict.ensures ∙ c.in-Ok.is)
 
-pub returns-in-Refused : goal.returns-in-Refused
-returns-in-Refused c =
-    read-fault c.args.file.now _ (sym c.check_head-verdict.ensures ∙ c.in-Refused.is)
+pub returns-in-Err : goal.returns-in-Err
+returns-in-Err c =
+    read-fault c.args.file.now _ (sym c.check_head-verdict.ensures ∙ c.in-Err.is)

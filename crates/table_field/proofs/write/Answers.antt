@@ -8,15 +8,15 @@ pub returns-then-out-lt-TABLE_BYTES : goal.returns-then-out-lt-TABLE_BYTES
 returns-then-out-lt-TABLE_BYTES c =
     let given = c.args in
     subst (Answered _ _ _ _) (sym c.refuse.ensures) (write-short given.table.now given.out.now
-    (sym c.in-Accepted.is ∙ c.check_rule-verdict.ensures) c.if-out-lt-TABLE_BYTES.true)
+    (sym c.in-Ok.is ∙ c.check_rule-verdict.ensures) c.if-out-lt-TABLE_BYTES.true)
 
-pub returns-in-Refused : goal.returns-in-Refused
-returns-in-Refused c =
+pub returns-in-Err : goal.returns-in-Err
+returns-in-Err c =
     let given = c.args in
-    write-broken given.table.now given.out.now _ (sym c.in-Refused.is ∙ c.check_rule-verdict.ensures)
+    write-broken given.table.now given.out.now _ (sym c.in-Err.is ∙ c.check_rule-verdict.ensures)
 
 pub returns-else-out-lt-TABLE_BYTES : goal.returns-else-out-lt-TABLE_BYTES
 returns-else-out-lt-TABLE_BYTES c =
     let given = c.args in
-    write_done given.table.now given.out.now (sym c.in-Accepted.is ∙ c.check_rule-verdict.ensures)
+    write_done given.table.now given.out.now (sym c.in-Ok.is ∙ c.check_rule-verdict.ensures)
     c.put_field.new.out c.if-out-lt-TABLE_BYTES.false c.put_field.ensures

@@ -1,9 +1,0 @@
--- `is_side` is `is_side`.
-use borrow.Author.Tests.{le-leb, lt-leb}
-use Rattle.refusal.proofs.is_side.Goals as goal
-
-pub returns-then-n-ge1 : goal.returns-then-n-ge1
-returns-then-n-ge1 c = simp (le-leb _ _ c.if-n-ge1.true)
-
-pub returns-else-n-ge1 : goal.returns-else-n-ge1
-returns-else-n-ge1 c = simp (lt-leb _ _ c.if-n-ge1.false)
