@@ -59,11 +59,7 @@ fn reach_of(number: usize) -> Reach
     requires { (1 ≤ number) × (number ≤ largest_erosion) }
     ensures { result.0 ≡ number - 1 }
 {
-    let found = Reach::of_clearance(Clearance(number as u16));
-    match found {
-        Some(reach) => reach,
-        None => Reach::MAX,
-    }
+    Reach::of_clearance(Clearance(number as u16)).unwrap()
 }
 
 // The part of a region that lies in a box of it.

@@ -40,16 +40,7 @@ pub fn plunge_at(head: Head, file: &[u8], count: usize, i: usize) -> Plunge
     requires { Sides head × Drawable head count file.now × (i < count) }
     ensures { result ≡ nth_plunge file.now i }
 {
-    let maybe = reading::plunge_at(head.size(), file, fields::place(head, i));
-    match maybe {
-        Some(q) => q,
-        None => Plunge {
-            column: 0,
-            row: 0,
-            reach: Reach(0),
-            depth: 0,
-        },
-    }
+    reading::plunge_at(head.size(), file, fields::place(head, i)).unwrap()
 }
 
 // ---- the box

@@ -87,23 +87,6 @@ head-right f e =
 
 -- ---- the numbers of a plunge
 
-module _ (x y n d : ℕ) where
-  pub plunge-read : (k : Reach) → reach_of n ≡ Some k → Some (record { column = x; row = y; reach = k; depth = d }) ≡ plunge_of x y n d
-  plunge-read k = go (leb n largest_reach)
-    where
-      go : (b : Bool) → cond b (Some (record { 0 = n })) None ≡ Some k → Some (record { column = x; row = y; reach = k; depth = d })
-          ≡ cond b (Some (record { column = x; row = y; reach = record { 0 = n }; depth = d })) None
-      go true e = let r : record { 0 = n } ≡ k = cc in rw (sym r)
-      go false e = let z : ◌≡◌ {A = ℕ} 0 1 = cc in absurd (omega arith)
-
-  pub plunge-none : reach_of n ≡ None → None ≡ plunge_of x y n d
-  plunge-none = go (leb n largest_reach)
-    where
-      go : (b : Bool) → cond b (Some (record { 0 = n })) None ≡ None
-          → None ≡ cond b (Some (record { column = x; row = y; reach = record { 0 = n }; depth = d })) None
-      go true e = let z : ◌≡◌ {A = ℕ} 0 1 = cc in absurd (omega arith)
-      go false e = refl
-
 module _ (s : Size) (f : List ℕ) (at : ℕ) where
   -- the plunge that was read is the field's; a reach that is none lies above the largest
   pub read_is : (q : Plunge) → plunge_if s f at ≡ Some q → q ≡ plunge_at s f at

@@ -72,16 +72,13 @@ pub fn head_in(file: &[u8]) -> Head
 fn plunge_of(column: u16, row: u16, reach: u16, depth: u8) -> Option<Plunge>
     ensures { result ≡ plunge_of column row reach depth }
 {
-    let maybe = Reach::read(reach);
-    match maybe {
-        Some(reach) => Some(Plunge {
-            column,
-            row,
-            reach,
-            depth,
-        }),
-        None => None,
-    }
+    let reach = Reach::read(reach)?;
+    Some(Plunge {
+        column,
+        row,
+        reach,
+        depth,
+    })
 }
 
 // The plunge of a small plate's field at a place.
@@ -127,16 +124,7 @@ pub fn nth_plunge(file: &[u8], job: Job, i: usize) -> Plunge
     ensures { result ≡ nth_plunge file.now i }
 {
     let head = job.head;
-    let found = plunge_at(head.size(), file, fields::place(head, i));
-    match found {
-        Some(q) => q,
-        None => Plunge {
-            column: 0,
-            row: 0,
-            reach: Reach(0),
-            depth: 0,
-        },
-    }
+    plunge_at(head.size(), file, fields::place(head, i)).unwrap()
 }
 
 // Refusals 8 and 9 in their order; a reach above the largest leaves every plate.
@@ -144,18 +132,15 @@ fn check_plunge(file: &[u8], head: Head, at: usize) -> Verdict
     requires { (at + plunge_bytes (size_of head) ≤ length file.now) × (head.width ≤ largest_side) }
     ensures { result ≡ first_met (plunge_trials head file.now at) }
 {
-    let maybe = plunge_at(head.size(), file, at);
-    match maybe {
-        Some(q) => {
-            if q.fits_plate(head) {
-                if q.depth == 0 {
-                    return refusal::refuse(9, at);
-                }
-                return Ok(());
+    match plunge_at(head.size(), file, at) {
+        Some(q) if q.fits_plate(head) => {
+            if q.depth == 0 {
+                refusal::refuse(9, at)
+            } else {
+                Ok(())
             }
-            refusal::refuse(8, at)
         }
-        None => refusal::refuse(8, at),
+        _ => refusal::refuse(8, at),
     }
 }
 
@@ -190,8 +175,7 @@ fn field_at(file: &[u8], head: Head, n: usize) -> Step
     let at = fields::place(head, n);
     let plunge = reading_fields::plunge_opening(head.size());
     let end = reading_fields::end_opening();
-    let opening = reading_fields::check_open(file, at, plunge, end);
-    match opening {
+    match reading_fields::check_open(file, at, plunge, end) {
         Ok(()) => content_at(file, head, at, n),
         Err(r) => Step::Fault(r),
     }

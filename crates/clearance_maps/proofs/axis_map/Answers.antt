@@ -15,15 +15,15 @@ pub filter_map-requires : goal.filter_map-requires
 filter_map-requires c =
     let mapped : let given = c.args in
     Mapped c.head_of.result (clearance c.head_of.result given.relief.now given.level) given.out.now
-    c.clearance_map-verdict.new.out = let s = c.args in
-    let g = c.clearance_map-verdict.ensures in
+    c.clearance_map.new.out = let s = c.args in
+    let g = c.clearance_map.ensures in
     accepted-mapped s.kind s.width s.height (not (is_level s.level)) s.relief.now s.out.now
-    (sym g.answer ∙ c.in-Ok.is) (λ p. clearance p s.relief.now s.level) _ _ _
+    (sym g.answer ∙ c.in_ok-clearance_map.was) (λ p. clearance p s.relief.now s.level) _ _ _
     c.head_of.ensures g in
     let s = c.args in
     let g =
     accepted-plates s.kind s.width s.height (not (is_level s.level)) s.relief.now s.out.now
-    (sym c.clearance_map-verdict.ensures.answer ∙ c.in-Ok.is) _
+    (sym c.clearance_map.ensures.answer ∙ c.in_ok-clearance_map.was) _
     c.head_of.ensures in
     record {
       sides = g.sides;
@@ -32,17 +32,17 @@ filter_map-requires c =
       zeros = λ h. absurd (omega arith);
     }
 
-pub returns-in-Ok : goal.returns-in-Ok
-returns-in-Ok c =
+pub returns : goal.returns
+returns c =
     let mapped : let given = c.args in
     Mapped c.head_of.result (clearance c.head_of.result given.relief.now given.level) given.out.now
-    c.clearance_map-verdict.new.out = let s = c.args in
-    let g = c.clearance_map-verdict.ensures in
+    c.clearance_map.new.out = let s = c.args in
+    let g = c.clearance_map.ensures in
     accepted-mapped s.kind s.width s.height (not (is_level s.level)) s.relief.now s.out.now
-    (sym g.answer ∙ c.in-Ok.is) (λ p. clearance p s.relief.now s.level) _ _ _
+    (sym g.answer ∙ c.in_ok-clearance_map.was) (λ p. clearance p s.relief.now s.level) _ _ _
     c.head_of.ensures g in
     let s = c.args in
-    let a = sym c.clearance_map-verdict.ensures.answer ∙ c.in-Ok.is in
+    let a = sym c.clearance_map.ensures.answer ∙ c.in_ok-clearance_map.was in
     answered-accepted s.kind s.width s.height (not (is_level s.level)) s.relief.now s.out.now a
     (λ p. axis p s.relief.now s.level) _ _ c.head_of.ensures
     (axis-mapped _ s.relief.now s.level

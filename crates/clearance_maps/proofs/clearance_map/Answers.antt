@@ -17,28 +17,28 @@ use Rattle.clearance_maps.proofs.clearance_map.Goals as goal
 pub transform-requires : goal.transform-requires
 transform-requires c =
     let said : let given = c.args in
-    c.check_map-verdict.result ≡ level_verdict given.relief.now given.kind given.width given.height given.level given.out.now = let s = c.args in
+    c.check_map.result ≡ level_verdict given.relief.now given.kind given.width given.height given.level given.out.now = let s = c.args in
     by-shorter s.kind s.width s.height (eqb s.level 0) s.relief.now s.out.now _
-    c.smaller-shortest.ensures _ c.check_map-verdict.ensures
+    c.smaller-shortest.ensures _ c.check_map.ensures
     ∙ ap (λ (b : Bool). first_met (map_trials s.kind s.width s.height b (length s.relief.now ∷ length s.out.now ∷ [])))
     (byte-level s.level (omega (arith, c.ranges.level))) in
     let s = c.args in
-    let a = sym (said) ∙ c.in-Ok.is in (
+    let a = sym (said) ∙ c.in_ok-check_map.was in (
       accepted-plates s.kind s.width s.height (not (is_level s.level)) s.relief.now s.out.now a _
           c.head_of.ensures,
       accepted-level s.kind s.width s.height (not (is_level s.level)) s.relief.now s.out.now a s.level refl,
     )
 
-pub returns-in-Ok : goal.returns-in-Ok
-returns-in-Ok c =
+pub returns : goal.returns
+returns c =
     let said : let given = c.args in
-    c.check_map-verdict.result ≡ level_verdict given.relief.now given.kind given.width given.height given.level given.out.now = let s = c.args in
+    c.check_map.result ≡ level_verdict given.relief.now given.kind given.width given.height given.level given.out.now = let s = c.args in
     by-shorter s.kind s.width s.height (eqb s.level 0) s.relief.now s.out.now _
-    c.smaller-shortest.ensures _ c.check_map-verdict.ensures
+    c.smaller-shortest.ensures _ c.check_map.ensures
     ∙ ap (λ (b : Bool). first_met (map_trials s.kind s.width s.height b (length s.relief.now ∷ length s.out.now ∷ [])))
     (byte-level s.level (omega (arith, c.ranges.level))) in
     let s = c.args in
     answered-accepted s.kind s.width s.height (not (is_level s.level)) s.relief.now s.out.now
-    (sym (said) ∙ c.in-Ok.is)
+    (sym (said) ∙ c.in_ok-check_map.was)
     (λ p. clearance p s.relief.now s.level) _ _ c.head_of.ensures
     c.transform.ensures

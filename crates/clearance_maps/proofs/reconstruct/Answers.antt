@@ -11,23 +11,23 @@ use Rattle.clearance_maps.proofs.reconstruct.Goals as goal
 pub transform-requires : goal.transform-requires
 transform-requires c =
     let said : let given = c.args in
-    c.check_map-verdict.result ≡ reconstruct_verdict given.map.now given.kind given.width given.height given.out.now = let s = c.args in
+    c.check_map.result ≡ reconstruct_verdict given.map.now given.kind given.width given.height given.out.now = let s = c.args in
     by-shorter s.kind s.width s.height false s.map.now s.out.now _ c.smaller-shortest.ensures _
-    c.check_map-verdict.ensures in
+    c.check_map.ensures in
     let s = c.args in
-    let a = sym (said) ∙ c.in-Ok.is in (
+    let a = sym (said) ∙ c.in_ok-check_map.was in (
       accepted-plates s.kind s.width s.height false s.map.now s.out.now a _
           c.head_of.ensures,
       tt,
     )
 
-pub returns-in-Ok : goal.returns-in-Ok
-returns-in-Ok c =
+pub returns : goal.returns
+returns c =
     let said : let given = c.args in
-    c.check_map-verdict.result ≡ reconstruct_verdict given.map.now given.kind given.width given.height given.out.now = let s = c.args in
+    c.check_map.result ≡ reconstruct_verdict given.map.now given.kind given.width given.height given.out.now = let s = c.args in
     by-shorter s.kind s.width s.height false s.map.now s.out.now _ c.smaller-shortest.ensures _
-    c.check_map-verdict.ensures in
+    c.check_map.ensures in
     let s = c.args in
     answered-accepted s.kind s.width s.height false s.map.now s.out.now
-    (sym (said) ∙ c.in-Ok.is) (λ p. reconstructed p s.map.now)
+    (sym (said) ∙ c.in_ok-check_map.was) (λ p. reconstructed p s.map.now)
     _ _ c.head_of.ensures c.transform.ensures
