@@ -8,7 +8,7 @@ use Prim.Native.Nat.{ℕ}
 use Rattle.refusal.specs.Refusals.{Verdict}
 
 abbrev pub of_verdict : Verdict → HaruAnswer
-of_verdict (Ok tt) = record { number = 0; value = 0; place = 0 }
+of_verdict (Ok _) = record { number = 0; value = 0; place = 0 }
 of_verdict (Err r) = record { number = r.number; value = 0; place = r.place }
 
 abbrev pub of_cell : Result Clearance Refusal → HaruAnswer

@@ -6,9 +6,12 @@ ghost use Rattle.c_answers.specs.Told.{of_verdict, of_cell, of_volume};
 ghost use Rattle.c_answers.specs.Jobs.{of_read, of_list, of_motion, of_three, of_motions};
 ghost use Rattle.c_answers.specs.Ports.{of_port};
 
+use geometry::Clearance;
+use listing::Extent;
 use motion_floats::{Motion, Motions};
 use port::{Port, PortAnswer};
-use refusal::Verdict;
+use reading::Job;
+use refusal::{Refusal, Verdict};
 
 // ---- maps
 

@@ -12,7 +12,7 @@ abbrev pub wrong_cell : ℕ → ℕ → ℕ → ℕ → ℕ → Bool
 wrong_cell t x y w h = cond (is_level t) (cond (ltb x w) (not (ltb y h)) true) true
 
 abbrev pub cell_answer : Verdict → ℕ → Result Clearance Refusal
-cell_answer (Ok tt) d = Ok (record { 0 = d })
+cell_answer (Ok _) d = Ok (record { 0 = d })
 cell_answer (Err r) d = Err r
 
 -- the whole answer

@@ -1,4 +1,3 @@
 pub mod Regions
-pub mod Reaches
 pub mod Beginnings
 pub mod Climbs

@@ -30,8 +30,8 @@ compared f g =
 -- the first file's refusal, then the second's
 abbrev pub comparison_of : Verdict → Verdict → List ℕ → List ℕ → Comparison
 comparison_of (Err r) v f g = FirstRefused r
-comparison_of (Ok tt) (Err r) f g = SecondRefused r
-comparison_of (Ok tt) (Ok tt) f g = compared f g
+comparison_of (Ok _) (Err r) f g = SecondRefused r
+comparison_of (Ok _) (Ok _) f g = compared f g
 
 -- each file is drawn into a map of its own: its faults, then 4
 abbrev pub comparison : List ℕ → List ℕ → List ℕ → List ℕ → Comparison
@@ -40,7 +40,7 @@ comparison f g a b = comparison_of (draw_verdict f a) (draw_verdict g b) f g
 -- the second map is drawn only after the first
 abbrev pub second_written : Verdict → Verdict → List ℕ → List ℕ → List ℕ
 second_written (Err r) v new old = old
-second_written (Ok tt) v new old = written v new old
+second_written (Ok _) v new old = written v new old
 
 -- a call that compares: its answer, and what it leaves in both maps
 pub record CompareCall (f g a a' b b' : List ℕ) (r : Comparison) : Type 0 where

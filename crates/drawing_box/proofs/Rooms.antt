@@ -57,13 +57,13 @@ module _ (p : Head) (n : ℕ) (f : List ℕ) (sides : Sides p) (d : Drawable p n
   told-reach r e = omega (arith, reach-small)
 
   -- the field that was read is the file's
-  module _ (m : (Option Plunge)) (s : Size) (at : ℕ) (e : m ≡ plunge_if s f at) (z : s ≡ size_of p) (a : at ≡ place p i) where
+  module _ (m : Option Plunge) (s : Size) (at : ℕ) (e : m ≡ plunge_if s f at) (z : s ≡ size_of p) (a : at ≡ place p i) where
     whole : m ≡ Some (nth_plunge f i)
     whole = e ∙ nth-field f i p s at d.head z a ∙ is-plunge (size_of (head_in f)) f (place (head_in f) i) reach-small
 
     -- its plunge is the file's
     pub told : (q : Plunge) → m ≡ Some q → q ≡ nth_plunge f i
-    told q g = ap (λ (m : (Option Plunge)). or_else m q) (sym g ∙ whole)
+    told q g = ap (λ (m : Option Plunge). or_else m q) (sym g ∙ whole)
       where
         or_else : Option Plunge → Plunge → Plunge
         or_else (Some o) q = o

@@ -40,7 +40,7 @@ ScoreMap s m k w h out out' a a' b b' =
 
 -- the volume takes no kind: head_of's serves, since no kind changes a depth
 abbrev pub volume_answer : Verdict → ℕ → Result ℕ Refusal
-volume_answer (Ok tt) v = Ok v
+volume_answer (Ok _) v = Ok v
 volume_answer (Err r) v = Err r
 
 abbrev pub volume_of : List ℕ → ℕ → ℕ → Result ℕ Refusal

@@ -9,10 +9,11 @@ use borrow.Author.Tests.{eq-eqb, eqb-true}
 use lib.Dec.{eqb}
 use lib.ListN.{length}
 use Rattle.refusal.specs.declared.Refusal.{Refusal}
+use Rattle.refusal.specs.Refusals.{Verdict}
 use Rattle.geometry.specs.Lists.{common}
 use Rattle.job_check.specs.Checking.{alike}
 
-pub refused-not : {A : Type 0} (r : Refusal) → Err r ≡ Ok tt → A
+pub refused-not : {A : Type 0} (r : Refusal) → ◌≡◌ {A = Verdict} (Err r) (Ok tt) → A
 refused-not r e = let z : ◌≡◌ {A = ℕ} 0 1 = cc in absurd (omega arith)
 
 -- a list that agrees with itself, and lists that agree to the end of both

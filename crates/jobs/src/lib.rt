@@ -6,6 +6,7 @@ ghost use Rattle.geometry.specs.Plate.{area};
 ghost use Rattle.jobs.specs.Calls.{Drawn, ListCall, TidyCall};
 
 use geometry::Head;
+use listing::Extent;
 use refusal::{Refusal, Verdict};
 
 // How many cells a plate has.

@@ -14,5 +14,5 @@ room_trials n out = trial (ltb (length out) n) 5 n ∷ []
 
 -- the answer to a verdict on a list: how long its file is, how many plunges it has and "how many rungs were climbed", or the refusal
 abbrev pub list_answer : Verdict → Head → List Plunge → ℕ → Result Extent Refusal
-list_answer (Ok tt) p qs rungs = Ok (record { bytes = file_length p (length qs); plunges = length qs; erosions = rungs })
+list_answer (Ok _) p qs rungs = Ok (record { bytes = file_length p (length qs); plunges = length qs; erosions = rungs })
 list_answer (Err r) p qs rungs = Err r

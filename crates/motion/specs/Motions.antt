@@ -21,7 +21,7 @@ abbrev pub motion_verdict : List ℕ → ℕ → Scale → Verdict
 motion_verdict f i s = first_met (file_trials f ++ ask_trials (total f) i s)
 
 abbrev pub motion_answer : Verdict → Motions → Result Motions Refusal
-motion_answer (Ok tt) m = Ok m
+motion_answer (Ok _) m = Ok m
 motion_answer (Err r) m = Err r
 
 -- N6: "Motions then use the loaded table"

@@ -91,9 +91,6 @@ fn built_in_at(file: &[u8], job: Job, i: usize, scale: Scale) -> Result<Motions,
 pub fn built_in_motions(file: &[u8], i: usize, scale: Scale) -> Result<Motions, Refusal>
     ensures { result ≡ motions_in built_in file.now i scale }
 {
-    let read = reading::read(file);
-    match read {
-        Err(r) => Err(r),
-        Ok(job) => built_in_at(file, job, i, scale),
-    }
+    let job = reading::read(file)?;
+    built_in_at(file, job, i, scale)
 }

@@ -76,7 +76,7 @@ passed-both true x c e = let z : ◌≡◌ {A = ℕ} 0 1 = cc in absurd (omega a
 passed-both false x c e = (refl, e)
 
 first-of-passed : (a b : (Result ⊤ PictureFault)) → first_of a b ≡ Ok tt → (a ≡ Ok tt) × (b ≡ Ok tt)
-first-of-passed (Ok tt) b e = (refl, e)
+first-of-passed (Ok _) b e = (refl, e)
 first-of-passed (Err x) b e = let z : ◌≡◌ {A = ℕ} 0 1 = cc in absurd (omega arith)
 
 append-passed : (xs ys : List Trial) → first_fault (xs ++ ys) ≡ Ok tt → (first_fault xs ≡ Ok tt) × (first_fault ys ≡ Ok tt)
@@ -126,7 +126,7 @@ passed-sized f h l e =
     record { width_small = p.width_small; height-small = p.height-small; end-small = omega (arith, p.inside, l) }
 
 answer-passed : (c : (Result ⊤ PictureFault)) (q p : Picture) → answer_of c q ≡ Ok p → (c ≡ Ok tt) × (q ≡ p)
-answer-passed (Ok tt) q p e = (refl, cc)
+answer-passed (Ok _) q p e = (refl, cc)
 answer-passed (Err x) q p e = let z : ◌≡◌ {A = ℕ} 0 1 = cc in absurd (omega arith)
 
 -- a picture that was found lies in its file

@@ -152,7 +152,7 @@ abbrev pub picture_of : Header → Picture
 picture_of h = record { width = h.width.value; height = h.height.value; at = first_sample h }
 
 abbrev pub answer_of : Result ⊤ PictureFault → Picture → Result Picture PictureFault
-answer_of (Ok tt) p = Ok p
+answer_of (Ok _) p = Ok p
 answer_of (Err x) p = Err x
 
 -- the picture of a file, or its first fault

@@ -7,7 +7,7 @@ use Rattle.pgm.specs.declared.PictureFault.{PictureFault}
 
 -- the first fault of two checks
 abbrev pub first_of : Result ⊤ PictureFault → Result ⊤ PictureFault → Result ⊤ PictureFault
-first_of (Ok tt) b = b
+first_of (Ok _) b = b
 first_of (Err x) b = Err x
 
 pub record Sized (h : Header) : Type 0 where

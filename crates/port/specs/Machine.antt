@@ -141,7 +141,7 @@ after_event p e =
 
 -- a refusal "leaves all eight bytes"
 abbrev pub stepped : Verdict → Port → Port → PortAnswer
-stepped (Ok tt) new old = record { port = new; verdict = (Ok tt) }
+stepped (Ok _) new old = record { port = new; verdict = (Ok tt) }
 stepped (Err r) new old = record { port = old; verdict = Err r }
 
 -- a write of the host; an event of the press

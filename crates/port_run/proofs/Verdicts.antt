@@ -61,7 +61,7 @@ module _ (p : Port) (t old : List ℕ) where
 
 -- the verdict of a step is the one it was given
 step-says : (v : Verdict) (new old : Port) → (stepped v new old).verdict ≡ v
-step-says (Ok tt) new old = refl
+step-says (Ok _) new old = refl
 step-says (Err r) new old = refl
 
 -- what a run says of its trace, its port and its output

@@ -40,7 +40,7 @@ inputs_in t = gather (input_count (length t)) 0 (λ k. input_at t k ∷ [])
 
 -- 0 for an input that was accepted, else its refusal's number
 abbrev pub number_of : Verdict → ℕ
-number_of (Ok tt) = 0
+number_of (Ok _) = 0
 number_of (Err r) = r.number
 
 -- a byte for each answer

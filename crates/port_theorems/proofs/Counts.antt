@@ -115,7 +115,7 @@ grows p s k = record { after = alike-count q r a ∙ counted-count n p k; well =
     a = alike-with status_byte s q q (omega arith) (same q)
 
 write-not-done : (i v : ℕ) (r : Verdict) → accepted_done (Write i v) r ≡ false
-write-not-done i v (Ok tt) = refl
+write-not-done i v (Ok _) = refl
 write-not-done i v (Err r) = refl
 
 event-counts : (p : Port) (e : ℕ) → Countable p → Counts p (happened p e).port (cond (accepted_done (Event e) (happened p e).verdict) 1 0)

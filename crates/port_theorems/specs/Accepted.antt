@@ -7,7 +7,7 @@ use Rattle.refusal.specs.Refusals.{Verdict}
 
 -- nothing is refused
 abbrev pub is_accepted : Verdict → Bool
-is_accepted (Ok tt) = true
+is_accepted (Ok _) = true
 is_accepted (Err r) = false
 
 -- a status accepts a write of a value to a byte; an event

@@ -41,9 +41,9 @@ verdicts (a ∷ rest) = a.verdict ∷ verdicts rest
 
 -- "the accepted "done" events"
 abbrev pub accepted_done : Input → Verdict → Bool
-accepted_done (Event e) (Ok tt) = eqb e done_event
+accepted_done (Event e) (Ok _) = eqb e done_event
 accepted_done (Event e) (Err r) = false
-accepted_done (Write i v) (Ok tt) = false
+accepted_done (Write i v) (Ok _) = false
 accepted_done (Write i v) (Err r) = false
 
 abbrev pub dones_accepted : List Input → List Verdict → ℕ

@@ -40,14 +40,14 @@ module _ (f : List ℕ) (us : List Trial) where
 -- ---- what reading said
 
 pub read-refused : (v : Verdict) (f : List ℕ) (r : Refusal) → Err r ≡ read_answer v f → v ≡ Err r
-read-refused (Ok tt) f r e = let z : ◌≡◌ {A = ℕ} 0 1 = cc in absurd (omega arith)
+read-refused (Ok _) f r e = let z : ◌≡◌ {A = ℕ} 0 1 = cc in absurd (omega arith)
 read-refused (Err q) f r e = ap Err cc
 
 pub read-accepted : (f : List ℕ) (j : Job) → Ok j ≡ read f → JobOf f j
 read-accepted f j = go (first_met (file_trials f)) refl
   where
     go : (v : Verdict) → first_met (file_trials f) ≡ v → Ok j ≡ read_answer v f → JobOf f j
-    go (Ok tt) r e = record { readable = r; head = cc; plunges = cc }
+    go (Ok _) r e = record { readable = r; head = cc; plunges = cc }
     go (Err q) r e = let z : ◌≡◌ {A = ℕ} 0 1 = cc in absurd (omega arith)
 
 -- a file has more bytes than plunges

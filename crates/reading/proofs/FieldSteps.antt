@@ -42,18 +42,18 @@ fields-step more p f n = first-append (field_trials p f n) (cond (is_end f (plac
     (first_met (field_trials p f n)) (fields_from more p f (suc n))
   where
     go : (b : Bool) (v : Verdict) (rest : List Trial) → and_then v (first_met (cond b [] rest)) ≡ after_step (step_of (cond b Ended Onward) v) (first_met rest)
-    go true (Ok tt) rest = refl
-    go false (Ok tt) rest = refl
+    go true (Ok _) rest = refl
+    go false (Ok _) rest = refl
     go b (Err r) rest = refl
 
 onward-by : (b : Bool) (v : Verdict) → step_of (cond b Ended Onward) v ≡ Onward → (b ≡ false) × (v ≡ Ok tt)
-onward-by true (Ok tt) e = let z : ◌≡◌ {A = ℕ} 0 1 = cc in absurd (omega arith)
-onward-by false (Ok tt) e = (refl, refl)
+onward-by true (Ok _) e = let z : ◌≡◌ {A = ℕ} 0 1 = cc in absurd (omega arith)
+onward-by false (Ok _) e = (refl, refl)
 onward-by b (Err r) e = let z : ◌≡◌ {A = ℕ} 0 1 = cc in absurd (omega arith)
 
 ended_by : (b : Bool) (v : Verdict) → step_of (cond b Ended Onward) v ≡ Ended → (b ≡ true) × (v ≡ Ok tt)
-ended_by true (Ok tt) e = (refl, refl)
-ended_by false (Ok tt) e = let z : ◌≡◌ {A = ℕ} 0 1 = cc in absurd (omega arith)
+ended_by true (Ok _) e = (refl, refl)
+ended_by false (Ok _) e = let z : ◌≡◌ {A = ℕ} 0 1 = cc in absurd (omega arith)
 ended_by b (Err r) e = let z : ◌≡◌ {A = ℕ} 0 1 = cc in absurd (omega arith)
 
 -- what a right plunge's field has

@@ -122,7 +122,7 @@ module _ (p : Head) (f : List ℕ) (at : ℕ) where
   here = plunge_at (size_of p) f at
 
   -- the plunge that was read is the field's, so its tests are the field's
-  pub read_here : (m : (Option Plunge)) (q : Plunge) (s : Size) → m ≡ plunge_if s f at → s ≡ size_of p → m ≡ Some q → q ≡ plunge_at (size_of p) f at
+  pub read_here : (m : Option Plunge) (q : Plunge) (s : Size) → m ≡ plunge_if s f at → s ≡ size_of p → m ≡ Some q → q ≡ plunge_at (size_of p) f at
   read_here m q s e k g = read_is (size_of p) f at q (ap (λ (t : Size). plunge_if t f at) (sym k) ∙ sym e ∙ g)
 
   pub read_fits : (q : Plunge) (b v : Bool) → q ≡ here → b ≡ fits_plate p q → b ≡ v → fits_plate p here ≡ v

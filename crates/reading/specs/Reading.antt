@@ -98,7 +98,7 @@ plunges_in f = plunges_up_to (total f) f
 
 -- "it gives back kind, width, height and the number of plunges"
 abbrev pub read_answer : Verdict → List ℕ → Result Job Refusal
-read_answer (Ok tt) f = Ok (record { head = head_in f; plunges = total f })
+read_answer (Ok _) f = Ok (record { head = head_in f; plunges = total f })
 read_answer (Err r) f = Err r
 
 abbrev pub read : List ℕ → Result Job Refusal

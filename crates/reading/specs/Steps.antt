@@ -17,7 +17,7 @@ use Rattle.refusal.specs.Refusals.{Verdict}
 
 -- a step that stands if nothing is refused
 abbrev pub step_of : Step → Verdict → Step
-step_of right (Ok tt) = right
+step_of right (Ok _) = right
 step_of right (Err r) = Fault r
 
 -- past an end field reading ends, past a plunge it goes on

@@ -1,6 +1,7 @@
 -- Laws of refusals: which is given by the tests that led to it, what acceptance says, and the shortest buffer stands for all.
-use Rattle.std.specs.Prelude.{Option, Some, None, Ok, Err, is_none}
-use mathlib.Core.Path.{◌≡◌, refl, sym, ap}
+use Rattle.std.specs.Prelude.{Option, Some, None, Result, Ok, Err, IsErrAnd, is_none}
+use Rattle.std.proofs.lemmas.Result.{err_from_is_err_and}
+use mathlib.Core.Path.{◌≡◌, refl, sym, ap, ◌∙◌}
 use mathlib.Core.Bool.{Bool, true, false, cond, not}
 use mathlib.Core.List.{List, [], ◌∷◌}
 use Prim.Native.Nat.{ℕ, ◌*◌, ◌≤◌, ◌<◌, min}
@@ -14,6 +15,10 @@ use Rattle.geometry.specs.Forms.{kind_of}
 use Rattle.refusal.specs.declared.Refusal.{Refusal}
 use Rattle.refusal.specs.Refusals.{trial, first_met, is_side, largest_side, is_erosion_number, largest_erosion, is_level, largest_level, bad_kind, bad_sides, short, side_trials, map_trials, kind_named, head_of, written, Answered}
 use Rattle.refusal.specs.Refusals.{Verdict}
+
+-- what `?` hands on is the refusal that it met
+pub passed-on : {T E : Type 0} (r : Result T E) (x : E) → IsErrAnd r (λ y. y ≡ x) → r ≡ Err x
+passed-on r x h = let w = err_from_is_err_and r h in w.1 ∙ ap Err w.2
 
 -- two sides of 16 bits have a product that a length can be compared with
 pub area-fits : (w h : ℕ) → w < 65536 → h < 65536 → h * w < 4294967296
@@ -57,13 +62,13 @@ shortest-two a m n more = go (ltb m a) (ltb n a) refl refl
 -- a byte that names a kind; one that names none
 module _ (k w h : ℕ) (wrong : Bool) (lengths : List ℕ) where
   pub kind-passes : (kd : Kind) → kind_of k ≡ Some kd → first_met (map_trials k w h wrong lengths) ≡ first_met (side_trials w h wrong lengths)
-  kind-passes kd e = ap (λ (m : (Option Kind)). first_met (trial (is_none m) 1 0 ∷ side_trials w h wrong lengths)) e
+  kind-passes kd e = ap (λ (m : Option Kind). first_met (trial (is_none m) 1 0 ∷ side_trials w h wrong lengths)) e
 
   pub kind-refused : kind_of k ≡ None → first_met (map_trials k w h wrong lengths) ≡ refused 1
-  kind-refused e = ap (λ (m : (Option Kind)). first_met (trial (is_none m) 1 0 ∷ side_trials w h wrong lengths)) e
+  kind-refused e = ap (λ (m : Option Kind). first_met (trial (is_none m) 1 0 ∷ side_trials w h wrong lengths)) e
 
-pub head-named : (k w h : ℕ) (m : (Option Kind)) → kind_of k ≡ m → record { kind = kind_named m; width = w; height = h } ≡ head_of k w h
-head-named k w h m e = ap (λ (n : (Option Kind)). record { kind = kind_named n; width = w; height = h }) (sym e)
+pub head-named : (k w h : ℕ) (m : Option Kind) → kind_of k ≡ m → record { kind = kind_named m; width = w; height = h } ≡ head_of k w h
+head-named k w h m e = ap (λ (n : Option Kind). record { kind = kind_named n; width = w; height = h }) (sym e)
 
 -- what an accepted call knows of its arguments
 pub record Sound (w h : ℕ) (wrong : Bool) (n : ℕ) : Type 0 where

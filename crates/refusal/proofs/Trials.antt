@@ -11,7 +11,7 @@ use Rattle.refusal.specs.Refusals.{Verdict}
 
 -- the second verdict, if the first refuses nothing
 abbrev pub and_then : Verdict → Verdict → Verdict
-and_then (Ok tt) v = v
+and_then (Ok _) v = v
 and_then (Err r) v = Err r
 
 pub first-append : (ts us : List Trial) → first_met (ts ++ us) ≡ and_then (first_met ts) (first_met us)
@@ -28,7 +28,7 @@ pub not-refused : (r : Refusal) → ◌≡◌ {A = Verdict} (Err r) (Ok tt) → 
 not-refused r e = let z : ◌≡◌ {A = ℕ} 0 1 = cc in omega arith
 
 pub both-accepted : (u v : Verdict) → and_then u v ≡ Ok tt → (u ≡ Ok tt) × (v ≡ Ok tt)
-both-accepted (Ok tt) v e = (refl, e)
+both-accepted (Ok _) v e = (refl, e)
 both-accepted (Err r) v e = absurd (not-refused r e)
 
 -- a trial that refuses nothing, and those after it

@@ -79,7 +79,7 @@ head_of k w h = record { kind = kind_named (kind_of k); width = w; height = h }
 
 -- what an output holds at exit: the answer's bytes, then what stood there before; unchanged on a refusal
 abbrev pub written : Verdict → List ℕ → List ℕ → List ℕ
-written (Ok tt) new old = new ++ drop (length new) old
+written (Ok _) new old = new ++ drop (length new) old
 written (Err r) new old = old
 
 -- a call that gives a verdict and one output
@@ -89,7 +89,7 @@ pub record Answered (verdict : Verdict) (new old now : List ℕ) (r : Verdict) :
 
 -- work bytes "are free after acceptance, and after refusals 5 and 12; other refusals leave them untouched"
 abbrev pub free : Verdict → Bool
-free (Ok tt) = true
+free (Ok _) = true
 free (Err r) = cond (eqb r.number 5) true (eqb r.number 12)
 
 -- a work buffer: its length and what lies past the plate's bytes stay, and all of it where its bytes are not free

@@ -92,7 +92,7 @@ module _ (s out a b : List ℕ) (o : file_buffer ≡ length out) (i : most_cells
     unlisted-text q c = ap (λ (v : Verdict). answer_text v (plate_in s) (plunges_of s)) (sym (sym verdict-same ∙ was _ _ c.answer))
       where
         was : (v : Verdict) (n : ℕ) → Err q ≡ list_answer v (plate_in s) (plunges_of s) n → v ≡ Err q
-        was (Ok tt) n e = let z : ◌≡◌ {A = ℕ} 0 1 = cc in absurd (omega arith)
+        was (Ok _) n e = let z : ◌≡◌ {A = ℕ} 0 1 = cc in absurd (omega arith)
         was (Err r) n e = ap Err cc
 
     module _ (e : Extent) (c : ListCall (depths s) k w h out out' a a' b b' (Ok e)) where
@@ -101,7 +101,7 @@ module _ (s out a b : List ℕ) (o : file_buffer ≡ length out) (i : most_cells
 
       known : (v : Verdict) (n : ℕ) → Ok e ≡ list_answer v (plate_in s) (plunges_of s) n
           → (v ≡ Ok tt) × (e.bytes ≡ list_length s) × (e.plunges ≡ length (plunges_of s))
-      known (Ok tt) n g = (refl, cc, cc)
+      known (Ok _) n g = (refl, cc, cc)
       known (Err r) n g = let z : ◌≡◌ {A = ℕ} 0 1 = cc in absurd (omega arith)
 
       was : (list_verdict (depths s) k w h out a b ≡ Ok tt) × (e.bytes ≡ list_length s) × (e.plunges ≡ length (plunges_of s))

@@ -147,6 +147,6 @@ pub in-force-rule : (f old now : List ℕ) (r : Verdict) → Rule old → Loaded
 in-force-rule f old now r rule l = subst Rule (sym l.table) (go (load_verdict f) refl)
   where
     go : (v : Verdict) → load_verdict f ≡ v → Rule (in_force v (entries_in f) old)
-    go (Ok tt) e = accepted-rule (entries_in f)
+    go (Ok _) e = accepted-rule (entries_in f)
         (both-accepted (first_met (field_trials f)) (first_met (rule_trials (entries_in f))) (sym (first-append (field_trials f) (rule_trials (entries_in f))) ∙ e)).1
     go (Err q) e = rule

@@ -56,7 +56,7 @@ load_verdict f = first_met (field_trials f ++ rule_trials (entries_in f))
 
 -- the table in force after a load: "A refused load keeps the table in force."
 abbrev pub in_force : Verdict → List ℕ → List ℕ → List ℕ
-in_force (Ok tt) new old = new
+in_force (Ok _) new old = new
 in_force (Err r) new old = old
 
 pub record Loaded (f old now : List ℕ) (r : Verdict) : Type 0 where

@@ -3,7 +3,8 @@
 
 ghost use Rattle.std.specs.Prelude.{◌≡◌, length};
 
-use refusal::Verdict;
+use listing::Extent;
+use refusal::{Refusal, Verdict};
 use test_io::{STDOUT_FILENO, UNTOUCHED, part, print_next, print_refusal, print_rest, print_text};
 
 const SIDE: usize = refusal::LARGEST_SIDE as usize;

@@ -3,6 +3,7 @@
 
 use job_check::check;
 use jobs::{draw, list, tidy};
+use listing::Extent;
 use reading::Job;
 use refusal::{Refusal, Verdict};
 use scan::byte_in;

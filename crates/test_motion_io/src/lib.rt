@@ -2,6 +2,7 @@
 #![tactic(auto)]
 
 use motion_floats::{Motion, Motions};
+use refusal::Refusal;
 use test_io::print_text;
 
 fn print_float(x: f64) {

@@ -3,7 +3,7 @@
 
 ghost use Rattle.std.specs.Prelude.{◌≤◌};
 
-use pgm::PictureFault;
+use pgm::{Picture, PictureFault};
 use pgm_copies::CopyAnswer;
 use scan::byte_in;
 use test_io::{STDIN_FILENO, print_next, print_text, word};

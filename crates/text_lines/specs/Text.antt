@@ -51,7 +51,7 @@ tidy_line = ascii "tidy\n"
 
 -- the text of a verdict on a list: the list's, or the refusal's one line
 abbrev pub answer_text : Verdict → Head → List Plunge → List ℕ
-answer_text (Ok tt) p qs = list_text p qs
+answer_text (Ok _) p qs = list_text p qs
 answer_text (Err r) p qs = refusal_line r
 
 -- room for any line, in bytes

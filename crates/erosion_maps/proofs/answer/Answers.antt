@@ -12,27 +12,27 @@ use Rattle.erosion_maps.proofs.answer.Goals as goal
 pub fill-requires : goal.fill-requires
 fill-requires c =
     let said : let s = c.args in
-    c.check_map-verdict.result ≡ four_verdict s.kind s.width s.height (wrong_number s.asked) s.relief.now s.out.now s.a.now s.b.now = let s = c.args in
-    c.check_map-verdict.ensures
+    c.check_map.result ≡ four_verdict s.kind s.width s.height (wrong_number s.asked) s.relief.now s.out.now s.a.now s.b.now = let s = c.args in
+    c.check_map.ensures
     ∙ ap (λ (t : Bool). first_met (map_trials s.kind s.width s.height t (c.shortest-room.result ∷ []))) c.is_wrong-wrong.ensures
     ∙ by-shortest s.kind s.width s.height (wrong_number s.asked) s.relief.now s.out.now s.a.now s.b.now
     c.shortest-room.result c.shortest-room.ensures in
     let s = c.args in
-    let e = sym (said) ∙ c.in-Ok.is in (
+    let e = sym (said) ∙ c.in_ok-check_map.was in (
       accepted-right s.kind s.width s.height (wrong_number s.asked) s.relief.now s.out.now s.a.now s.b.now e,
       accepted-buffers s.kind s.width s.height (wrong_number s.asked) s.relief.now s.out.now s.a.now s.b.now e _
           c.head_of.ensures,
     )
 
-pub returns-in-Ok : goal.returns-in-Ok
-returns-in-Ok c =
+pub returns : goal.returns
+returns c =
     let said : let s = c.args in
-    c.check_map-verdict.result ≡ four_verdict s.kind s.width s.height (wrong_number s.asked) s.relief.now s.out.now s.a.now s.b.now = let s = c.args in
-    c.check_map-verdict.ensures
+    c.check_map.result ≡ four_verdict s.kind s.width s.height (wrong_number s.asked) s.relief.now s.out.now s.a.now s.b.now = let s = c.args in
+    c.check_map.ensures
     ∙ ap (λ (t : Bool). first_met (map_trials s.kind s.width s.height t (c.shortest-room.result ∷ []))) c.is_wrong-wrong.ensures
     ∙ by-shortest s.kind s.width s.height (wrong_number s.asked) s.relief.now s.out.now s.a.now s.b.now
     c.shortest-room.result c.shortest-room.ensures in
     let s = c.args in
     left-filled s.kind s.width s.height (wrong_number s.asked) s.relief.now s.out.now s.a.now s.b.now
-    (sym (said) ∙ c.in-Ok.is) (λ p. asked_map s.asked p s.relief.now) _ _ _ _
+    (sym (said) ∙ c.in_ok-check_map.was) (λ p. asked_map s.asked p s.relief.now) _ _ _ _
     c.head_of.ensures c.fill.ensures

@@ -16,7 +16,7 @@ overflow_mul-height c =
     let given = c.args in
     let s =
     sound given.width given.height false (length given.relief.now)
-    (sym c.check_sides-verdict.ensures ∙ c.in-Ok.is) in
+    (sym c.check_sides.ensures ∙ c.in_ok-check_sides.was) in
     omega (arith, area_small given.width given.height s.narrow s.low)
 
 pub depth_sum-requires : goal.depth_sum-requires
@@ -24,15 +24,15 @@ depth_sum-requires c =
     let given = c.args in
     let s =
     sound given.width given.height false (length given.relief.now)
-    (sym c.check_sides-verdict.ensures ∙ c.in-Ok.is) in
+    (sym c.check_sides.ensures ∙ c.in_ok-check_sides.was) in
     (s.long, area_small given.width given.height s.narrow s.low)
 
-pub returns-in-Ok : goal.returns-in-Ok
-returns-in-Ok c =
+pub returns : goal.returns
+returns c =
     let given = c.args in
     let s =
     sound given.width given.height false (length given.relief.now)
-    (sym c.check_sides-verdict.ensures ∙ c.in-Ok.is) in
+    (sym c.check_sides.ensures ∙ c.in_ok-check_sides.was) in
     ap Ok (c.depth_sum.ensures ∙ volume-sum given.width given.height given.relief.now s.long) ∙ sym
     (ap (λ v. volume_answer v (volume (head_of 4 given.width given.height) given.relief.now))
-    (sym c.check_sides-verdict.ensures ∙ c.in-Ok.is))
+    (sym c.check_sides.ensures ∙ c.in_ok-check_sides.was))
