@@ -1,5 +1,5 @@
 -- What the drawn relief gives: its volume, and whether the file is tidy.
-use Rattle.std.specs.Prelude.{Ok, Err}
+use Rattle.std.specs.Prelude.{Ok, Err, is_ok}
 use mathlib.Core.Path.{◌≡◌, refl, sym, ap, ◌∙◌}
 use mathlib.Core.Bool.{Bool, true, false, not}
 use mathlib.Core.List.{List, [], ◌∷◌, ◌++◌}
@@ -98,19 +98,12 @@ module _ (f a b c : List ℕ) (ok : IsReadable f) (x : area (head_in f) ≤ leng
   checked = no-fault f (length a ∷ length b ∷ length c ∷ []) (trial (not (is_tidy f)) 12 (common f (tidied f)) ∷ []) ok
       (long-three (head_in f).width (head_in f).height (length a) (length b) (length c) (min (min (length a) (length b)) (length c)) refl (omega arith))
 
-  pub tidy-accepted : (v : Verdict) → v ≡ check_verdict f a b c → v ≡ Ok tt → true ≡ is_tidy f
-  tidy-accepted v e w = go (is_tidy f) (sym checked ∙ sym e ∙ w)
+  pub tidy-told : (v : Verdict) → v ≡ check_verdict f a b c → is_ok v ≡ is_tidy f
+  tidy-told v e = ap is_ok (e ∙ checked) ∙ go (is_tidy f)
     where
-      go : (t : Bool) → first_met (trial (not t) 12 (common f (tidied f)) ∷ []) ≡ Ok tt → true ≡ t
-      go true g = refl
-      go false g = let z : ◌≡◌ {A = ℕ} 0 1 = cc in absurd (omega arith)
-
-  pub tidy-refused : (v : Verdict) (r : Refusal) → v ≡ check_verdict f a b c → v ≡ Err r → false ≡ is_tidy f
-  tidy-refused v r e w = go (is_tidy f) (sym checked ∙ sym e ∙ w)
-    where
-      go : (t : Bool) → first_met (trial (not t) 12 (common f (tidied f)) ∷ []) ≡ Err r → false ≡ t
-      go true g = let z : ◌≡◌ {A = ℕ} 0 1 = cc in absurd (omega arith)
-      go false g = refl
+      go : (t : Bool) → is_ok (first_met (trial (not t) 12 (common f (tidied f)) ∷ [])) ≡ t
+      go true = refl
+      go false = refl
 
 -- ---- the work buffers
 

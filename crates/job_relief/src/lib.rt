@@ -17,9 +17,8 @@ pub fn volume_of(file: &[u8], job: Job, work: &mut [u8]) -> u64
     ensures { (result ≡ volume_in file.now) × WorkKept file.now work.old work.new }
 {
     let head = job.head;
-    jobs::draw(file, work);
-    let answer = erosion_maps::volume(work, head.width, head.height);
-    match answer {
+    let _ = jobs::draw(file, work);
+    match erosion_maps::volume(work, head.width, head.height) {
         Ok(volume) => volume as u64,
         Err(_) => 0,
     }
@@ -31,9 +30,5 @@ pub fn is_tidy(file: &[u8], job: Job, a: &mut [u8], b: &mut [u8], c: &mut [u8]) 
     ensures { (result ≡ is_tidy file.now) × WorkedOn file.now a.old a.new b.old b.new
         c.old c.new }
 {
-    let verdict = job_check::check(file, a, b, c);
-    match verdict {
-        Ok(()) => true,
-        Err(_) => false,
-    }
+    job_check::check(file, a, b, c).is_ok()
 }

@@ -172,19 +172,10 @@ fn header_of(file: &[u8]) -> Header
 
 // ---- checks
 
-fn first_of(a: Result<(), PictureFault>, b: Result<(), PictureFault>) -> Result<(), PictureFault>
-    ensures { result ≡ first_of a b }
-{
-    match a {
-        Ok(()) => b,
-        Err(fault) => Err(fault),
-    }
-}
-
 fn in_range(most: u32, n: u32) -> bool
     ensures { result ≡ in_range most n }
 {
-    if 1 <= n { n <= most } else { false }
+    1 <= n && n <= most
 }
 
 fn check_number(n: Number, quantity: Quantity, most: u32) -> Result<(), PictureFault>
@@ -202,20 +193,15 @@ fn check_number(n: Number, quantity: Quantity, most: u32) -> Result<(), PictureF
 fn opens(file: &[u8]) -> bool
     ensures { result ≡ opens file.now }
 {
-    if scan::byte_in(file, 0) == b'P' {
-        scan::byte_in(file, 1) == b'5'
-    } else {
-        false
-    }
+    scan::byte_in(file, 0) == b'P' && scan::byte_in(file, 1) == b'5'
 }
 
 fn check_numbers(header: Header) -> Result<(), PictureFault>
     ensures { result ≡ first_fault (numbers_trials header) }
 {
-    let width = check_number(header.width, Quantity::Width, LARGEST_SIDE);
-    let height = check_number(header.height, Quantity::Height, LARGEST_SIDE);
-    let maxval = check_number(header.maxval, Quantity::Maxval, LARGEST_SAMPLE);
-    first_of(first_of(width, height), maxval)
+    check_number(header.width, Quantity::Width, LARGEST_SIDE)?;
+    check_number(header.height, Quantity::Height, LARGEST_SIDE)?;
+    check_number(header.maxval, Quantity::Maxval, LARGEST_SAMPLE)
 }
 
 fn check_header(file: &[u8], header: Header) -> Result<(), PictureFault>
@@ -270,10 +256,7 @@ fn check_samples(file: &[u8], header: Header) -> Result<(), PictureFault>
     ensures { result ≡ first_fault (sample_trials file.now header) }
 {
     let end = header.maxval.end;
-    if file.len() <= end {
-        return Err(PictureFault::NoSpace(end));
-    }
-    if !is_white(file[end]) {
+    if file.len() <= end || !is_white(file[end]) {
         return Err(PictureFault::NoSpace(end));
     }
     check_raster(file, end + 1, area(header), header.maxval.value)
@@ -297,6 +280,7 @@ pub fn read_picture(file: &[u8]) -> Result<Picture, PictureFault>
     ensures { result ≡ picture_answer file.now }
 {
     let header = header_of(file);
-    first_of(check_header(file, header), check_samples(file, header))?;
+    check_header(file, header)?;
+    check_samples(file, header)?;
     Ok(picture_of(header))
 }
