@@ -11,7 +11,7 @@ ghost use Rattle.std.specs.Prelude.{◌≤◌};
 use comparison::Comparison;
 use listing::Extent;
 use motion_floats::Scale;
-use tool_answers::Outcome;
+use tool_answers::{Fault, Output};
 use tool_words::Command;
 
 // Standard output and standard error.
@@ -175,10 +175,10 @@ fn answer(
     let scale = request.scale;
     let outcome = tool_answers::outcome_of(command, scale, request.kind, input, out, a, b, c);
     match outcome {
-        Outcome::Done(n) => deliver(rt, fd, about, request, number, input, out, n),
-        Outcome::Listed(extent) => deliver_list(rt, fd, about, request, number, input, out, extent),
-        Outcome::Refused(refusal) => refusals::say_refusal(from, command, scale, input, refusal),
-        Outcome::Faulty(fault) => refusals::say_fault(from, fault),
+        Ok(Output::Done(n)) => deliver(rt, fd, about, request, number, input, out, n),
+        Ok(Output::Listed(extent)) => deliver_list(rt, fd, about, request, number, input, out, extent),
+        Err(Fault::Refused(refusal)) => refusals::say_refusal(from, command, scale, input, refusal),
+        Err(Fault::Faulty(fault)) => refusals::say_fault(from, fault),
     }
 }
 

@@ -4,7 +4,7 @@
 ghost use Rattle.std.specs.Prelude.{◌≤◌};
 
 use pgm::{Picture, PictureFault};
-use pgm_copies::CopyAnswer;
+use pgm_copies::CopyFault;
 use scan::byte_in;
 use test_io::{STDIN_FILENO, print_next, print_text, word};
 use test_records::{between, size_of};
@@ -85,15 +85,15 @@ fn print_needed(out: &[u8], n: usize) {
     test_io::print_rest(out, 0);
 }
 
-fn print_answer(answer: CopyAnswer, out: &[u8]) {
+fn print_answer(answer: Result<usize, CopyFault>, out: &[u8]) {
     match answer {
-        CopyAnswer::Copied(n) => print_copied(out, n),
-        CopyAnswer::NoRoom(n) => print_needed(out, n),
-        CopyAnswer::TooFew => {
+        Ok(n) => print_copied(out, n),
+        Err(CopyFault::NoRoom(n)) => print_needed(out, n),
+        Err(CopyFault::TooFew) => {
             print_text(b"too few\n");
             test_io::print_rest(out, 0);
         }
-        CopyAnswer::Unread(_fault) => {
+        Err(CopyFault::Unread(_)) => {
             print_text(b"unread\n");
             test_io::print_rest(out, 0);
         }
