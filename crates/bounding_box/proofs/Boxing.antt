@@ -1,124 +1,39 @@
--- Laws of boxes: spans, joined columns and rows, the box that they give, rows copied, cropped and spread out one
--- after the other.
-use mathlib.Core.Path.{◌≡◌, refl, sym, ap, ◌∙◌, subst}
+-- Laws of boxes: rows copied, cropped and spread out one after the other.
+use mathlib.Core.Path.{◌≡◌, sym, ap, ◌∙◌, subst}
 use mathlib.Core.List.{List}
-use Prim.Native.Nat.{ℕ, suc, ◌+◌, ◌*◌, ◌-◌, ◌≤◌, ◌<◌, max}
+use Prim.Native.Nat.{ℕ, suc, ◌+◌, ◌*◌, ◌-◌, ◌≤◌, ◌<◌}
 use native.Mathlib.Omega.{arith}
 use native.Mathlib.Decide.{dec_le}
-use native.Mathlib.Nat.{suc-mul, add-mul, mul-le-mul_right, mul-le-mul}
+use native.Mathlib.Nat.{suc-mul, mul-le-mul_right, mul-le-mul}
 use native.Mathlib.Numerals.{add-one}
 use lib.Arith.{digits_lt}
-use lib.ListN.{length, get_or, set}
-use lib.Seq.{get_or-set_same, get_or-set_other}
+use lib.ListN.{length, get_or}
+use Rattle.std.specs.List.{CopiedTo, SameBelow, SameFrom}
 use Rattle.geometry.specs.declared.Head.{Head}
 use Rattle.geometry.specs.Plate.{area}
 use Rattle.refusal.specs.Sides.{Sides}
 use Rattle.buffers.specs.Fill.{Filled}
-use Rattle.buffers.specs.Runs.{ZeroRun}
-use Rattle.buffers.proofs.Zeros.{zeros-none}
-use Rattle.buffers.proofs.Fill.{filled_none, filled_more, filled-as, row_under, row-over}
+use Rattle.buffers.proofs.Fill.{filled-as, row_under, row-over}
 use Rattle.bounding_box.specs.declared.Bounds.{Bounds}
-use Rattle.bounding_box.specs.declared.Span.{Span}
-use Rattle.bounding_box.specs.Boxes.{Within, BareOutside, CopiedRows, Copied, Copyable, CroppedRows, Cropped, Croppable, SpreadRows, Spread}
-use Rattle.bounding_box.specs.Boxes.{Joined, Topped, Spans}
+use Rattle.bounding_box.specs.Boxes.{Within, CopiedRows, CroppedRows, Croppable, SpreadRows, Spread}
 
--- ---- spans of the places with a number above 0
+-- ---- rows moved
 
-module _ (l : List ℕ) where
-  -- from the first place with a number above 0 up to the end of the last
-  pub spans-some : (n first end : ℕ) → end ≤ n → first < end → ZeroRun l 0 first → ZeroRun l end n → Spans n (record { first = first; number = end - first }) l
-  spans-some n first end a b u v =
-      let k : end ≡ first + (end - first) = omega arith in
-      record { some = omega arith; within = omega arith; under = u; over = subst (λ (j : ℕ). ZeroRun l j n) k v }
-
-  -- where there is no such place, any span will do
-  pub spans-none : (n first end : ℕ) → 1 ≤ n → end ≤ first → ZeroRun l 0 first → ZeroRun l end n → Spans n (record { first = 0; number = 1 }) l
-  spans-none n first end a b u v =
-      record { some = omega arith; within = omega arith; under = zeros-none l 0; over = record { none = λ i c d. go i d (dec_le end i) } }
-    where
-      go : (i : ℕ) → i < n → Dec (end ≤ i) → get_or l i 0 ≡ 0
-      go i d (yes e) = v.none i e d
-      go i d (no e) = u.none i (omega arith) (omega arith)
-
--- ---- joined columns and rows
-
-module _ (start : ℕ) (m old : List ℕ) where
-  pub joined-none : Joined start 0 m old old 0
-  joined-none = record { columns = filled_none (λ x. max (get_or old x 0) (get_or m (start + x) 0)) 0 old; bound = λ x a. absurd (omega arith) }
-
-  -- one column more
-  pub joined-more : (x v all top : ℕ) (mid : List ℕ) → Joined start x m old mid all → x < length old → v ≡ max (get_or mid x 0) (get_or m (start + x) 0)
-      → top ≡ max all (get_or m (start + x) 0) → Joined start (x + 1) m old (set mid x v) top
-  joined-more x v all top mid j h e g =
-      record {
-        columns =
-            filled_more (λ i. max (get_or old i 0) (get_or m (start + i) 0)) 0 x v old mid j.columns (omega arith) h
-            (e ∙ ap (λ (n : ℕ). max n (get_or m (start + x) 0)) (j.columns.over x (omega arith)));
-        bound = λ i a. go i a (dec_le x i);
-      }
-    where
-      go : (i : ℕ) → i < x + 1 → Dec (x ≤ i) → get_or m (start + i) 0 ≤ top
-      go i a (yes d) = let k : i ≡ x = omega arith in rw k (omega arith)
-      go i a (no d) = omega (arith, j.bound i (omega arith))
-
-  pub joined_end : (x w all : ℕ) (new : List ℕ) → x ≤ w → w ≤ x → Joined start x m old new all → Joined start w m old new all
-  joined_end x w all new a b j = let k : x ≡ w = omega arith in subst (λ (i : ℕ). Joined start i m old new all) k j
-
-module _ (w : ℕ) (m : List ℕ) where
-  pub topped-none : (columns rows : List ℕ) → Topped w 0 m columns rows
-  topped-none columns rows = record { across = λ x y a b. absurd (omega arith); down = λ x y a b. absurd (omega arith) }
-
-  -- one row more
-  pub topped-more : (y all : ℕ) (columns columns' rows : List ℕ) → Topped w y m columns rows → Joined (y * w) w m columns columns' all → y < length rows
-      → Topped w (y + 1) m columns' (set rows y all)
-  topped-more y all columns columns' rows t j h =
-      record { across = λ x i a b. column x i a b (dec_le y i); down = λ x i a b. row x i a b (dec_le y i) }
-    where
-      column : (x i : ℕ) → x < w → i < y + 1 → Dec (y ≤ i) → get_or m (i * w + x) 0 ≤ get_or columns' x 0
-      column x i a b (yes d) = let k : i ≡ y = omega arith in rw k (omega (arith, j.columns.inside x (omega arith) a))
-      column x i a b (no d) = omega (arith, t.across x i a (omega arith), j.columns.inside x (omega arith) a)
-
-      row : (x i : ℕ) → x < w → i < y + 1 → Dec (y ≤ i) → get_or m (i * w + x) 0 ≤ get_or (set rows y all) i 0
-      row x i a b (yes d) = let k : i ≡ y = omega arith in rw k (omega (arith, j.bound x a, get_or-set_same rows y all 0 h))
-      row x i a b (no d) = omega (arith, t.down x i a (omega arith), get_or-set_other rows y i all 0 (omega arith))
-
-  pub topped-end : (y h : ℕ) (columns rows : List ℕ) → y ≤ h → h ≤ y → Topped w y m columns rows → Topped w h m columns rows
-  topped-end y h columns rows a b t = let k : y ≡ h = omega arith in subst (λ (i : ℕ). Topped w i m columns rows) k t
-
--- ---- the box
-
--- the box of two spans
-abbrev pub box_of : Span → Span → Bounds
-box_of a d = record { column = a.first; row = d.first; width = a.number; height = d.number }
-
-module _ (p : Head) (a d : Span) (columns rows : List ℕ) where
-  pub box-within : Spans p.width a columns → Spans p.height d rows → Within p (box_of a d)
-  box-within s t = record { wide = s.some; tall = t.some; across = s.within; down = t.within }
-
-  pub box-bare : (m : List ℕ) → Topped p.width p.height m columns rows → Spans p.width a columns → Spans p.height d rows
-      → BareOutside p (box_of a d) m
-  box-bare m t s u =
-      record {
-        west = λ x y g h l. omega (arith, t.across x y g h, s.under.none x (omega arith) l);
-        east = λ x y g h l. omega (arith, t.across x y g h, s.over.none x l g);
-        north = λ x y g h l. omega (arith, t.down x y g h, u.under.none y (omega arith) l);
-        south = λ x y g h l. omega (arith, t.down x y g h, u.over.none y l h);
-      }
+-- what `copy_within` leaves is a stretch filled from the same map
+pub filled-moved : (from count to : ℕ) (old new : List ℕ) → length new ≡ length old
+    → CopiedTo old new from to (from + count - from) × SameBelow old new to × SameFrom old new (to + (from + count - from))
+    → Filled (λ n. get_or old (from + (n - to)) 0) to (to + count) old new
+filled-moved from count to old new same h =
+    record {
+      same = same;
+      inside = λ n a b. h.0 n 0 a (omega arith);
+      under = λ n a. h.1 n 0 a;
+      over = λ n a. h.2 n 0 (omega arith);
+    }
 
 -- ---- rows copied
 
--- rows of the whole width lie in both maps
-pub whole_room : (w : ℕ) (b : Bounds) (src dst : List ℕ) → Copyable w b src dst
-    → (b.row * w + b.height * w ≤ length src) × (b.width ≡ w → b.height * w ≤ length dst)
-whole_room w b src dst h = (
-  omega (arith, h.box.down, add-mul b.row b.height w),
-  λ e. omega (arith, h.room, ap (λ (n : ℕ). b.height * n) e),
-)
-
 module _ (w : ℕ) (b : Bounds) (src old : List ℕ) where
-  pub copied_none : CopiedRows w b 0 src old old
-  copied_none = record { same = refl; holds = λ x y g l. absurd (omega arith); surplus = λ n l. refl }
-
   -- one row more
   pub copied_more : (y : ℕ) (mid new : List ℕ) → CopiedRows w b y src old mid
       → Filled (λ n. get_or src ((y + b.row) * w + b.column + (n - y * b.width)) 0) (y * b.width) (y * b.width + b.width) mid new
@@ -141,27 +56,6 @@ module _ (w : ℕ) (b : Bounds) (src old : List ℕ) where
       go x i a h (no d) =
           g.under (i * b.width + x) (row_under b.width y x i a (omega arith)) ∙ c.holds x i a (omega arith)
 
-  pub copied-end : (y : ℕ) (new : List ℕ) → y ≤ b.height → b.height ≤ y → CopiedRows w b y src old new → Copied w b src old new
-  copied-end y new l g c = let k : y ≡ b.height = omega arith in subst (λ (n : ℕ). CopiedRows w b n src old new) k c
-
-  -- rows of the whole width are one stretch
-  pub copied-whole : (new : List ℕ) → b.width ≡ w → b.column + b.width ≤ w
-      → Filled (λ n. get_or src (b.row * w + (n - 0)) 0) 0 (0 + b.height * w) old new → Copied w b src old new
-  copied-whole new e l f =
-      record {
-        same = f.same;
-        holds = λ x y a h. f.inside (y * b.width + x) (omega arith) (omega (arith, area, digits_lt h a)) ∙ ap (λ (n : ℕ). get_or src n 0) (at x y);
-        surplus = λ n h. f.over n (omega (arith, area));
-      }
-    where
-      area : b.height * b.width ≡ b.height * w
-      area = ap (λ (n : ℕ). b.height * n) e
-
-      at : (x y : ℕ) → b.row * w + (y * b.width + x - 0) ≡ (y + b.row) * w + (x + b.column)
-      at x y =
-          let j : y * b.width ≡ y * w = ap (λ (n : ℕ). y * n) e in
-          omega (arith, j, l, e, add-mul y b.row w)
-
 -- ---- rows cropped
 
 -- a box of a plate can be cropped to
@@ -175,52 +69,21 @@ within-croppable p b m s h l =
     }
 
 module _ (w : ℕ) (b : Bounds) (old : List ℕ) where
-  -- a row of the box lies in the map, and so does the place that it gets, which is no later
-  pub record Room (y : ℕ) : Type 0 where
-    pub fits : y + b.row ≤ length old
-    pub source : (y + b.row) * w + b.column + b.width ≤ length old
-    pub target : y * b.width + b.width ≤ length old
-    pub behind : y * b.width ≤ (y + b.row) * w + b.column
-
-  pub room : Croppable w b old → (y : ℕ) → y < b.height → Room y
-  room h y l =
-      let last : y + b.row + 1 ≤ b.row + b.height = omega arith in
-      let rows : (y + b.row + 1) * w ≤ (b.row + b.height) * w = mul-le-mul_right w last in
-      let more : (y + b.row + 1) * w ≡ (y + b.row) * w + w = ap (λ (n : ℕ). n * w) (add-one (y + b.row)) ∙ suc-mul (y + b.row) w in
+  -- a row of the box gets no later place than it had
+  pub no-later : Croppable w b old → (y : ℕ) → y * b.width ≤ (y + b.row) * w + b.column
+  no-later h y =
       let first : y ≤ y + b.row = omega arith in
       let narrow : b.width ≤ w = omega (arith, h.across) in
-      let least : y * b.width ≤ (y + b.row) * w = mul-le-mul first narrow in
-      let columns : 1 ≤ w = omega (arith, h.wide, narrow) in
-      let many : (y + b.row) * 1 ≤ (y + b.row) * w = mul-le-mul (omega arith) columns in
-      record {
-        fits = omega (arith, many, more, rows, h.down);
-        source = omega (arith, more, rows, h.down, h.across);
-        target = omega (arith, least, more, rows, h.down, narrow);
-        behind = omega (arith, least);
-      }
+      omega (arith, mul-le-mul first narrow)
 
-  -- one row more, by way of an array
-  pub cropped-more : (y : ℕ) (mid new line line' : List ℕ) → Room y → CroppedRows w b y old mid
-      → Filled (λ n. get_or mid ((y + b.row) * w + b.column + n) 0) 0 b.width line line'
-      → Filled (λ n. get_or line' (n - y * b.width) 0) (y * b.width) (y * b.width + b.width) mid new → CroppedRows w b (y + 1) old new
-  cropped-more y mid new line line' r c f g = copied_more w b old old y mid new c (filled-as _ _ (y * b.width) (y * b.width + b.width) mid new g still)
-    where
-      -- the row has not been written over yet
-      still : (n : ℕ) → y * b.width ≤ n → n < y * b.width + b.width
-          → get_or line' (n - y * b.width) 0 ≡ get_or old ((y + b.row) * w + b.column + (n - y * b.width)) 0
-      still n a h =
-          f.inside (n - y * b.width) (omega arith) (omega arith)
-          ∙ c.surplus ((y + b.row) * w + b.column + (n - y * b.width)) (omega (arith, r.behind))
-
-  -- rows of the whole width from the first on stand where they are to stand
-  pub cropped-whole : b.row ≡ 0 → b.width ≡ w → b.column + b.width ≤ w → Cropped w b old old
-  cropped-whole e g l = record { same = refl; holds = λ x y a h. ap (λ (n : ℕ). get_or old n 0) (at x y); surplus = λ n h. refl }
-    where
-      at : (x y : ℕ) → y * b.width + x ≡ (y + b.row) * w + (x + b.column)
-      at x y =
-          let k : y ≡ y + b.row = omega arith in
-          let j : y * b.width ≡ (y + b.row) * w = ap (λ (n : ℕ). y * n) g ∙ ap (λ (n : ℕ). n * w) k in
-          omega (arith, j, l, g)
+  -- one row more, which has not been written over yet
+  pub cropped-more : (y : ℕ) (mid new : List ℕ) → Croppable w b old → CroppedRows w b y old mid
+      → Filled (λ n. get_or mid ((y + b.row) * w + b.column + (n - y * b.width)) 0) (y * b.width) (y * b.width + b.width) mid new
+      → CroppedRows w b (y + 1) old new
+  cropped-more y mid new r c f =
+      copied_more w b old old y mid new c
+      (filled-as _ _ (y * b.width) (y * b.width + b.width) mid new f
+      (λ n a h. c.surplus ((y + b.row) * w + b.column + (n - y * b.width)) (omega (arith, no-later r y))))
 
 -- ---- a box spread out
 
@@ -262,30 +125,19 @@ spread-rooms p b h =
     (mul-le-mul_right p.width i, mul-le-mul_right p.width j)
 
 module _ (w : ℕ) (b : Bounds) (old : List ℕ) where
-  pub spread_none : SpreadRows w b b.height old old
-  spread_none =
-      record {
-        same = refl;
-        holds = λ x y a c d. absurd (omega arith);
-        west = λ x y a c d. absurd (omega arith);
-        east = λ x y a e c d. absurd (omega arith);
-        under = λ n l. refl;
-        over = λ n l. refl;
-      }
-
-  -- one row more, by way of an array
-  pub spread-more : (n y k : ℕ) (mid half new line line' : List ℕ) → k ≡ y + 1 → Stretch w n b y → SpreadRows w b k old mid
-      → Filled (λ n. get_or mid (y * b.width + n) 0) 0 b.width line line'
-      → Filled (λ n. 0) ((y + b.row) * w) ((y + b.row) * w + w) mid half
-      → Filled (λ n. get_or line' (n - ((y + b.row) * w + b.column)) 0) ((y + b.row) * w + b.column) ((y + b.row) * w + b.column + b.width) half new
+  -- one row more: moved to its place, then zeros on either side of it
+  pub spread-more : (n y k : ℕ) (mid moved half new : List ℕ) → k ≡ y + 1 → Stretch w n b y → SpreadRows w b k old mid
+      → Filled (λ n. get_or mid (y * b.width + (n - ((y + b.row) * w + b.column))) 0) ((y + b.row) * w + b.column) ((y + b.row) * w + b.column + b.width) mid moved
+      → Filled (λ n. 0) ((y + b.row) * w) ((y + b.row) * w + b.column) moved half
+      → Filled (λ n. 0) ((y + b.row) * w + b.column + b.width) ((y + b.row) * w + w) half new
       → SpreadRows w b y old new
-  spread-more n y k mid half new line line' is-next t done f z g =
+  spread-more n y k mid moved half new is-next t done f g h =
       record {
-        same = g.same ∙ z.same ∙ c.same;
+        same = h.same ∙ g.same ∙ f.same ∙ c.same;
         holds = λ x i a d e. row x i a d e (dec_le (y + 1) i);
         west = λ x i a d e. left x i a d e (dec_le (y + 1) i);
         east = λ x i a k d e. right x i a k d e (dec_le (y + 1) i);
-        under = λ m a. g.under m (omega arith) ∙ z.under m a ∙ c.under m (omega (arith, t.next));
+        under = λ m a. h.under m (omega arith) ∙ g.under m a ∙ f.under m (omega arith) ∙ c.under m (omega (arith, t.next));
         over = λ m a. behind m (omega (arith, t.above)) ∙ c.over m a;
       }
     where
@@ -297,7 +149,7 @@ module _ (w : ℕ) (b : Bounds) (old : List ℕ) where
 
       -- what stands behind the row stays
       behind : (m : ℕ) → start + w ≤ m → get_or new m 0 ≡ get_or mid m 0
-      behind m a = g.over m (omega (arith, t.across)) ∙ z.over m a
+      behind m a = h.over m a ∙ g.over m (omega (arith, t.across)) ∙ f.over m (omega (arith, t.across))
 
       -- so do the rows below it
       below : (x i : ℕ) → y + 1 ≤ i → get_or new ((i + b.row) * w + x) 0 ≡ get_or mid ((i + b.row) * w + x) 0
@@ -309,45 +161,25 @@ module _ (w : ℕ) (b : Bounds) (old : List ℕ) where
       row x i a d e (no k) =
           let is : i ≡ y = omega arith in
           let place : start + (x + b.column) ≡ start + b.column + x = omega arith in
-          let back : start + b.column + x - (start + b.column) ≡ x = omega arith in
+          let back : y * b.width + (start + b.column + x - (start + b.column)) ≡ y * b.width + x = omega arith in
           rw is
-          (ap (λ (n : ℕ). get_or new n 0) place ∙ g.inside (start + b.column + x) (omega arith) (omega arith) ∙ ap (λ (n : ℕ). get_or line' n 0) back
-          ∙ f.inside x (omega arith) a ∙ c.under (y * b.width + x) (omega (arith, t.source, t.next)))
+          (ap (λ (n : ℕ). get_or new n 0) place ∙ h.under (start + b.column + x) (omega arith) ∙ g.over (start + b.column + x) (omega arith)
+          ∙ f.inside (start + b.column + x) (omega arith) (omega arith) ∙ ap (λ (n : ℕ). get_or mid n 0) back
+          ∙ c.under (y * b.width + x) (omega (arith, t.source, t.next)))
 
       left : (x i : ℕ) → x < b.column → y ≤ i → i < b.height → Dec (y + 1 ≤ i) → get_or new ((i + b.row) * w + x) 0 ≡ 0
       left x i a d e (yes k) = below x i k ∙ c.west x i a k e
       left x i a d e (no k) =
-          let is : i ≡ y = omega arith in rw is (g.under (start + x) (omega arith) ∙ z.inside (start + x) (omega arith) (omega (arith, t.across)))
+          let is : i ≡ y = omega arith in rw is (h.under (start + x) (omega arith) ∙ g.inside (start + x) (omega arith) (omega arith))
 
       right : (x i : ℕ) → b.column + b.width ≤ x → x < w → y ≤ i → i < b.height → Dec (y + 1 ≤ i) → get_or new ((i + b.row) * w + x) 0 ≡ 0
       right x i a l d e (yes k) = below x i k ∙ c.east x i a l k e
       right x i a l d e (no k) =
-          let is : i ≡ y = omega arith in rw is (g.over (start + x) (omega arith) ∙ z.inside (start + x) (omega arith) (omega arith))
+          let is : i ≡ y = omega arith in rw is (h.inside (start + x) (omega arith) (omega arith))
 
 module _ (p : Head) (b : Bounds) (h : Within p b) (old : List ℕ) where
   abbrev w : ℕ
   w = p.width
-
-  -- a box that is the whole plate stands where it is to stand
-  pub spread-whole : b.width ≡ w → b.height ≡ p.height → Spread p b old old
-  spread-whole e g =
-      let across = h.across in
-      let down = h.down in
-      let left : b.column ≡ 0 = omega arith in
-      let top : b.row ≡ 0 = omega arith in
-      record {
-        same = refl;
-        holds = λ x y a c.
-            let i : y + b.row ≡ y = omega arith in
-            ap (λ (n : ℕ). get_or old n 0) (omega (arith, left, ap (λ (n : ℕ). n * w) i, ap (λ (n : ℕ). y * n) e));
-        bare = record {
-          west = λ x y a c d. absurd (omega arith);
-          east = λ x y a c d. absurd (omega arith);
-          north = λ x y a c d. absurd (omega arith);
-          south = λ x y a c d. absurd (omega arith);
-        };
-        surplus = λ n l. refl;
-      }
 
   -- all rows of the box, then zeros above it and below it
   pub spread-all : (y : ℕ) (rows half new : List ℕ) → y ≤ 0 → SpreadRows w b y old rows → Filled (λ n. 0) 0 (b.row * w) rows half

@@ -40,12 +40,10 @@ fn join_row(map: &[u8], start: usize, width: usize, columns: &mut [u8; SIDE]) ->
     ensures { Joined start width map.now columns.old columns.new result }
 {
     let mut all = 0u8;
-    let mut x = 0;
-    while x < width {
+    for x in 0..width {
         let v = map[start + x];
-        columns[x] = window::higher(columns[x], v);
-        all = window::higher(all, v);
-        x += 1;
+        columns[x] = columns[x].max(v);
+        all = all.max(v);
     }
     all
 }
@@ -57,10 +55,8 @@ fn join_rows(head: Head, map: &[u8], columns: &mut [u8; SIDE], rows: &mut [u8; S
 {
     let width = head.width as usize;
     let height = head.height as usize;
-    let mut y = 0;
-    while y < height {
+    for y in 0..height {
         rows[y] = join_row(map, y * width, width, columns);
-        y += 1;
     }
 }
 
@@ -69,14 +65,7 @@ pub fn first_set(numbers: &[u8], n: usize) -> usize
     requires { n ≤ length numbers.now }
     ensures { FirstSet n numbers.now result }
 {
-    let mut first = 0;
-    while first < n {
-        if 0 < numbers[first] {
-            return first;
-        }
-        first += 1;
-    }
-    n
+    numbers[..n].iter().position(|v| 0 < *v).unwrap_or(n)
 }
 
 // One past the last of n places with a number above 0; 0 if there is none.
@@ -84,14 +73,10 @@ fn end_set(numbers: &[u8; SIDE], n: usize) -> usize
     requires { n ≤ largest_side }
     ensures { (result ≤ n) × ZeroRun numbers.now result n }
 {
-    let mut end = n;
-    while 0 < end {
-        if 0 < numbers[end - 1] {
-            return end;
-        }
-        end -= 1;
-    }
-    0
+    numbers[..n]
+        .iter()
+        .rposition(|v| 0 < *v)
+        .map_or(0, |last| last + 1)
 }
 
 // From the first to the last of n places with a number above 0; the first place if there is none.
@@ -138,12 +123,7 @@ fn copy_line(src: &[u8], from: usize, dst: &mut [u8], to: usize, count: usize)
     requires { (from + count ≤ length src.now) × (to + count ≤ length dst.old) }
     ensures { Filled (λ n. get_or src.now (from + (n - to)) 0) to (to + count) dst.old dst.new }
 {
-    let end = to + count;
-    let mut n = to;
-    while n < end {
-        dst[n] = src[from + (n - to)];
-        n += 1;
-    }
+    dst[to..to + count].copy_from_slice(&src[from..from + count]);
 }
 
 // Copies a box of a map with rows of `width` bytes to the start of another map, row after row; what lies past them there stays.
@@ -159,39 +139,12 @@ pub fn copy_box(width: usize, b: Bounds, src: &[u8], dst: &mut [u8])
         copy_line(src, top * width, dst, 0, height * width);
         return;
     }
-    let mut y = 0;
-    while y < height {
+    for y in 0..height {
         copy_line(src, (y + top) * width + left, dst, y * count, count);
-        y += 1;
     }
 }
 
 // ---- a map cropped
-
-// The bytes of a map from a place on, to an array.
-fn load_line(map: &[u8], from: usize, count: usize, line: &mut [u8; SIDE])
-    requires { (from + count ≤ length map.now) × (count ≤ largest_side) × (length line.old ≡ largest_side) }
-    ensures { Filled (λ n. get_or map.now (from + n) 0) 0 count line.old line.new }
-{
-    let mut n = 0;
-    while n < count {
-        line[n] = map[from + n];
-        n += 1;
-    }
-}
-
-// The bytes of an array, to a map from a place on.
-fn store_line(line: &[u8; SIDE], map: &mut [u8], to: usize, count: usize)
-    requires { (to + count ≤ length map.old) × (count ≤ largest_side) }
-    ensures { Filled (λ n. get_or line.now (n - to) 0) to (to + count) map.old map.new }
-{
-    let end = to + count;
-    let mut n = to;
-    while n < end {
-        map[n] = line[n - to];
-        n += 1;
-    }
-}
 
 // Crops a map with rows of `width` bytes to a box: the box's rows, one after the other, from the map's start on; what lies past them stays.
 // A row gets no later place than it had, so none is written over before it is read. Rows that stand right already are left alone.
@@ -203,17 +156,12 @@ pub fn crop(width: usize, b: Bounds, map: &mut [u8])
     let top = b.row;
     let count = b.width;
     let height = b.height;
-    if top == 0 {
-        if count == width {
-            return;
-        }
+    if top == 0 && count == width {
+        return;
     }
-    let mut line = [0u8; SIDE];
-    let mut y = 0;
-    while y < height {
-        load_line(map, (y + top) * width + left, count, &mut line);
-        store_line(&line, map, y * count, count);
-        y += 1;
+    for y in 0..height {
+        let from = (y + top) * width + left;
+        map.copy_within(from..from + count, y * count);
     }
 }
 
@@ -231,19 +179,15 @@ pub fn spread(head: Head, b: Bounds, map: &mut [u8])
     let top = b.row;
     let count = b.width;
     let rows = b.height;
-    if count == width {
-        if rows == height {
-            return;
-        }
+    if count == width && rows == height {
+        return;
     }
-    let mut line = [0u8; SIDE];
-    let mut y = rows;
-    while 0 < y {
-        y -= 1;
+    for y in (0..rows).rev() {
         let start = (y + top) * width;
-        load_line(map, y * count, count, &mut line);
-        buffers::zero_run(map, start, start + width);
-        store_line(&line, map, start + left, count);
+        let end = start + left + count;
+        map.copy_within(y * count..y * count + count, start + left);
+        buffers::zero_run(map, start, start + left);
+        buffers::zero_run(map, end, start + width);
     }
     buffers::zero_run(map, 0, top * width);
     buffers::zero_run(map, (rows + top) * width, height * width);

@@ -79,9 +79,6 @@ module _ (d : Drawing) (f : List ℕ) (h : Placeable d f) where
   pub part-plate : Sides (part_of d)
   part-plate = part-sides d h.sides h.holding.within
 
-  pub part_small : area (part_of d) ≤ largest_side * largest_side
-  part_small = mul-le-mul part-plate.low part-plate.narrow
-
   pub part-area : area (part_of d) ≤ area d.head
   part-area =
       let w = h.holding.within in

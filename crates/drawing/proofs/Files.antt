@@ -26,7 +26,7 @@ use Rattle.theory.proofs.Lists.{gather-out, each_in}
 use Rattle.theory.proofs.Distance.{dist-self, dist-zero}
 use Rattle.theory.proofs.Erosion.{highest_near-met}
 use Rattle.theory.proofs.Plate.{on-or-off, at-cell}
-use Rattle.buffers.specs.Fill.{Filled, Mapped}
+use Rattle.buffers.specs.Fill.{Mapped}
 use Rattle.buffers.specs.Margin.{Margin}
 use Rattle.buffers.proofs.Fill.{row_under}
 use Rattle.drawing_box.proofs.Rooms.{room}
@@ -142,25 +142,9 @@ module _ (reach : ℕ → ℕ) where
       largest' j h (yes k) = let u : j ≡ i = omega arith in omega (arith, ap reach u)
       largest' j h (no k) = omega (arith, s.largest j (omega arith))
 
-  pub ranges-end : (i n : ℕ) (first last : List ℕ) (top : ℕ) → i ≤ n → n ≤ i → Ranges reach i first last top → Ranges reach n first last top
-  ranges-end i n first last top h l s = let k : i ≡ n = omega arith in subst (λ (j : ℕ). Ranges reach j first last top) k s
-
 -- ---- placing
 
 module _ (p : Head) (nth : ℕ → Plunge) (r : ℕ) where
-  pub raised-none : (from : ℕ) (old : List ℕ) → Raised p nth r from from old old
-  raised-none from old = record { same = refl; low = λ n. omega arith; bound = λ i h l. absurd (omega arith); met = λ n. inl refl }
-
-  -- a plunge of another reach
-  pub raised-skip : (i : ℕ) (old : List ℕ) → ((nth i).reach.0 ≡ r → ⊥) → Raised p nth r i (i + 1) old old
-  raised-skip i old h =
-      record {
-        same = refl;
-        low = λ n. omega arith;
-        bound = λ j a b e. let k : j ≡ i = omega arith in absurd (h (subst (λ (j : ℕ). (nth j).reach.0 ≡ r) k e));
-        met = λ n. inl refl;
-      }
-
   -- a plunge of the reach
   pub raised-one : (i v : ℕ) (old : List ℕ) → (nth i).reach.0 ≡ r → centre_at p (nth i) < length old
       → v ≡ max (get_or old (centre_at p (nth i)) 0) (nth i).depth → Raised p nth r i (i + 1) old (set old (centre_at p (nth i)) v)
@@ -195,40 +179,12 @@ module _ (p : Head) (nth : ℕ → Plunge) (r : ℕ) where
         subst (λ (n : ℕ). (nth i).depth ≡ get_or (set old k v) n 0) (sym h) (omega (arith, here)),
       )
 
-  -- the same of a plunge that was read
-  pub raised-skip-told : (i : ℕ) (q : Plunge) (old : List ℕ) → q ≡ nth i → (q.reach.0 ≡ r → ⊥) → Raised p nth r i (i + 1) old old
-  raised-skip-told i q old e h = raised-skip i old (λ g. h (ap (λ (q : Plunge). q.reach.0) e ∙ g))
-
   pub raised-one-told : (i v : ℕ) (q : Plunge) (old : List ℕ) → q ≡ nth i → q.reach.0 ≡ r → centre_at p q < length old
       → v ≡ max (get_or old (centre_at p q) 0) q.depth → Raised p nth r i (i + 1) old (set old (centre_at p q) v)
   raised-one-told i v q old e g l k =
       subst (λ (q : Plunge). Raised p nth r i (i + 1) old (set old (centre_at p q) v)) (sym e)
       (raised-one i v old (ap (λ (q : Plunge). q.reach.0) (sym e) ∙ g) (subst (λ (q : Plunge). centre_at p q < length old) e l)
       (subst (λ (q : Plunge). v ≡ max (get_or old (centre_at p q) 0) q.depth) e k))
-
-  -- some, and then the next ones
-  pub raised-on : (from i to : ℕ) (old mid new : List ℕ) → from ≤ i → i ≤ to → Raised p nth r from i old mid → Raised p nth r i to mid new
-      → Raised p nth r from to old new
-  raised-on from i to old mid new h l a b =
-      record {
-        same = b.same ∙ a.same;
-        low = λ n. omega (arith, a.low n, b.low n);
-        bound = λ j u v e. in-turn j u v e (dec_le i j);
-        met = λ n. which n (b.met n) (a.met n);
-      }
-    where
-      in-turn : (j : ℕ) → from ≤ j → j < to → (nth j).reach.0 ≡ r → Dec (i ≤ j) → (nth j).depth ≤ get_or new (centre_at p (nth j)) 0
-      in-turn j u v e (yes d) = b.bound j d v e
-      in-turn j u v e (no d) = omega (arith, a.bound j u (omega arith) e, b.low (centre_at p (nth j)))
-
-      which : (n : ℕ) → (get_or new n 0 ≡ get_or mid n 0) ⊎ Of p nth r i to new n → (get_or mid n 0 ≡ get_or old n 0) ⊎ Of p nth r from i mid n
-          → (get_or new n 0 ≡ get_or old n 0) ⊎ Of p nth r from to new n
-      which n (inr (j, s, t, e, g, k)) m = inr (j, omega arith, t, e, g, k)
-      which n (inl c) (inl m) = inl (c ∙ m)
-      which n (inl c) (inr (j, s, t, e, g, k)) = inr (j, s, omega arith, e, g, k ∙ sym c)
-
-  pub raised-end : (from i to : ℕ) (old new : List ℕ) → i ≤ to → to ≤ i → Raised p nth r from i old new → Raised p nth r from to old new
-  raised-end from i to old new h l a = let k : i ≡ to = omega arith in subst (λ (j : ℕ). Raised p nth r from j old new) k a
 
 -- ---- reach by reach
 
@@ -383,7 +339,3 @@ module _ (p : Head) (n : ℕ) (nth : ℕ → Plunge) (fits : (i : ℕ) → i < n
   -- the last level is the drawing
   pub level-last : (r : ℕ) → r ≤ 0 → (old new : List ℕ) → Mapped p (drawn_from p.kind r qs) old new → Mapped p (drawn_from p.kind 0 qs) old new
   level-last r h old new m = let e : r ≡ 0 = omega arith in subst (λ (r : ℕ). Mapped p (drawn_from p.kind r qs) old new) e m
-
--- a plate of zeros
-pub zeroed : (p : Head) (old mid : List ℕ) → Filled (λ k. 0) 0 (area p) old mid → Mapped p (λ c. 0) mid mid
-zeroed p old mid a = record { same = refl; holds = λ x y h l. a.inside (y * p.width + x) (omega arith) (digits_lt l h); surplus = λ k h. refl }

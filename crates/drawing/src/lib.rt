@@ -50,13 +50,11 @@ fn find_ranges(
     ensures { Ranges (reach_in file.now) count first.new last.new result }
 {
     let mut top = 0;
-    let mut i = 0;
-    while i < count {
+    for i in 0..count {
         let reach = reach_at(head, file, count, i);
         first[reach] = start_of(first[reach], last[reach], i);
         last[reach] = i + 1;
-        top = numbers::larger(top, reach);
-        i += 1;
+        top = top.max(reach);
     }
     top
 }
@@ -72,8 +70,7 @@ fn place_one(d: Drawing, file: &[u8], i: usize, reach: usize, map: &mut [u8])
     let q = drawing_box::plunge_in(d, file, i);
     if (q.reach.0 as usize) == reach {
         let n = (q.row as usize) * width + (q.column as usize);
-        let old = map[n];
-        map[n] = window::higher(old, q.depth);
+        map[n] = map[n].max(q.depth);
     }
 }
 
@@ -82,10 +79,8 @@ fn place_range(d: Drawing, file: &[u8], from: usize, to: usize, reach: usize, ma
     requires { Placeable d file.now × (from ≤ to) × (to ≤ d.count) × (area (part_of d) ≤ length map.old) }
     ensures { Raised (part_of d) (plunge_in d file.now) reach from to map.old map.new }
 {
-    let mut i = from;
-    while i < to {
+    for i in from..to {
         place_one(d, file, i, reach, map);
-        i += 1;
     }
 }
 
@@ -106,9 +101,7 @@ fn draw_reaches(
 {
     let part = drawing_box::part_of(d);
     place_range(d, file, first[top], last[top], top, map);
-    let mut reach = top;
-    while 0 < reach {
-        reach -= 1;
+    for reach in (0..top).rev() {
         window_filter::filter_map(part, Leaf::Highest, reach, map);
         place_range(d, file, first[reach], last[reach], reach, map);
     }

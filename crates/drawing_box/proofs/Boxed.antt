@@ -2,19 +2,13 @@
 use mathlib.Core.Path.{◌≡◌, sym, ap, ◌∙◌, subst}
 use mathlib.Core.Bool.{true}
 use mathlib.Core.List.{List}
-use Prim.Native.Nat.{ℕ, ◌+◌, ◌-◌, ◌*◌, ◌/◌, ◌≤◌, ◌<◌}
+use Prim.Native.Nat.{ℕ, ◌+◌, ◌-◌, ◌≤◌, ◌<◌}
 use native.Mathlib.Omega.{arith}
 use native.Mathlib.Decide.{dec_le}
-use native.Mathlib.Nat.{mul-le-mul, div-le_self}
 use borrow.Author.Tests.{le-leb, lt-ltb}
-use mir.Syntax.{w64}
-use mir.Val.{Fits}
 use Rattle.geometry.specs.declared.Head.{Head}
 use Rattle.geometry.specs.declared.Plunge.{Plunge}
-use Rattle.geometry.specs.Forms.{largest_reach}
-use Rattle.geometry.specs.Plate.{area}
 use Rattle.geometry.specs.Plunges.{fits_plate}
-use Rattle.refusal.specs.Refusals.{largest_side}
 use Rattle.refusal.specs.Sides.{Sides}
 use Rattle.bounding_box.specs.declared.Bounds.{Bounds}
 use Rattle.bounding_box.specs.Boxes.{Within}
@@ -27,9 +21,6 @@ use Rattle.drawing_box.proofs.Rooms.{Room, nth-room}
 -- ---- extents
 
 module _ (p : Head) (f : List ℕ) (n : ℕ) where
-  pub extended_none : (e : Extent) → e.right ≡ 0 → e.bottom ≡ 0 → Extended p f n n e
-  extended_none e a b = record { across = omega arith; down = omega arith; balls = λ i g l. absurd (omega arith) }
-
   -- the ball before one more
   pub extended-more : (i k : ℕ) (e r : Extent) (q : Plunge) → k ≡ i + 1 → Drawable p n f → k ≤ n → Extended p f k n e → q ≡ nth_plunge f i → r ≡ widened_by e q
       → Extended p f i n r
@@ -53,9 +44,6 @@ module _ (p : Head) (f : List ℕ) (n : ℕ) where
           let s = x.balls j u h in
           record { west = omega (arith, s.west); east = omega (arith, s.east); north = omega (arith, s.north); south = omega (arith, s.south) }
 
-  pub extended-end : (i : ℕ) (e : Extent) → i ≤ 0 → Extended p f i n e → Extended p f 0 n e
-  extended-end i e h x = let k : i ≡ 0 = omega arith in subst (λ (j : ℕ). Extended p f j n e) k x
-
   -- the whole plate
   pub extended-whole : Drawable p n f → Extended p f 0 n (record { left = 0; right = p.width; top = 0; bottom = p.height })
   extended-whole d =
@@ -68,35 +56,6 @@ module _ (p : Head) (f : List ℕ) (n : ℕ) where
       }
 
 -- ---- boxes
-
--- the box of an extent with some columns and some rows
-pub holding-extent : (p : Head) (n : ℕ) (f : List ℕ) (e : Extent) → Extended p f 0 n e → e.left < e.right → e.top < e.bottom
-    → Holding p (record { column = e.left; row = e.top; width = e.right - e.left; height = e.bottom - e.top }) n f
-holding-extent p n f e x a b =
-    record {
-      within = record { wide = omega arith; tall = omega arith; across = omega (arith, x.across); down = omega (arith, x.down) };
-      balls = λ i l.
-          let s = x.balls i (omega arith) l in
-          record { west = s.west; east = omega (arith, s.east); north = s.north; south = omega (arith, s.south) };
-    }
-
--- the whole plate
-pub holding-whole : (p : Head) (n : ℕ) (f : List ℕ) → Sides p → Drawable p n f
-    → Holding p (record { column = 0; row = 0; width = p.width; height = p.height }) n f
-holding-whole p n f sides d =
-    record {
-      within = record { wide = sides.wide; tall = sides.tall; across = omega arith; down = omega arith };
-      balls = λ i l.
-          let s = (extended-whole p f n d).balls i (omega arith) l in
-          record { west = s.west; east = omega (arith, s.east); north = s.north; south = omega (arith, s.south) };
-    }
-
--- a part of a plate's cells for each reach is a small number
-pub few-cells : (p : Head) (part top : ℕ) → Sides p → top ≤ largest_reach → Fits w64 (area p / part * top)
-few-cells p part top s t =
-    let a : area p ≤ largest_side * largest_side = mul-le-mul s.low s.narrow in
-    let b : area p / part ≤ largest_side * largest_side = omega (arith, div-le_self (area p) part) in
-    omega (arith, mul-le-mul b t)
 
 -- ---- a box as a plate of its own
 
@@ -119,6 +78,3 @@ placeable-fits d f h i l = boxed-fits d (nth_plunge f i) (h.holding.balls i l)
 pub placeable : (p : Head) (n : ℕ) (f : List ℕ) (b : Bounds) → Sides p → Drawable p n f → Holding p b n f
     → Placeable (record { head = p; count = n; part = b }) f
 placeable p n f b s d h = record { sides = s; file = d; holding = h }
-
-pub told-held : (d : Drawing) (f : List ℕ) → Placeable d f → (i : ℕ) → i < d.count → (q : Plunge) → q ≡ nth_plunge f i → Held d.part q
-told-held d f h i l q e = subst (Held d.part) (sym e) (h.holding.balls i l)

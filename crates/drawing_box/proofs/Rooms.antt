@@ -1,13 +1,12 @@
 -- Laws of the plunges of a file that can be drawn: the room of a ball on its plate, and that a field that was read is the file's.
 use Rattle.std.specs.Prelude.{Option, Some, None}
-use mathlib.Core.Path.{◌≡◌, refl, sym, ap, ◌∙◌, subst}
+use mathlib.Core.Path.{◌≡◌, refl, sym, ap, ◌∙◌}
 use mathlib.Core.Bool.{Bool, true, false, cond}
 use mathlib.Core.List.{List}
-use Prim.Native.Nat.{ℕ, suc, ◌+◌, ◌≤◌, ◌<◌}
+use Prim.Native.Nat.{ℕ, ◌+◌, ◌≤◌, ◌<◌}
 use native.Mathlib.Omega.{arith}
 use borrow.Author.Tests.{leb-true, ltb-true}
 use lib.Dec.{leb, ltb}
-use lib.ListN.{length}
 use Rattle.geometry.specs.declared.Head.{Head}
 use Rattle.geometry.specs.declared.Plunge.{Plunge}
 use Rattle.geometry.specs.declared.Size.{Size}
@@ -15,8 +14,7 @@ use Rattle.geometry.specs.Forms.{largest_reach}
 use Rattle.geometry.specs.Plunges.{fits_plate}
 use Rattle.geometry.specs.Sizes.{size_of}
 use Rattle.refusal.specs.Sides.{Sides}
-use Rattle.fields.specs.Fields.{plunge_bytes, place}
-use Rattle.fields.proofs.Encoding.{place-next, place-le}
+use Rattle.fields.specs.Fields.{place}
 use Rattle.reading.specs.Reading.{head_in, nth_plunge}
 use Rattle.reading.specs.Steps.{plunge_if}
 use Rattle.reading.proofs.Answers.{is-plunge, nth-field}
@@ -45,9 +43,6 @@ room p q e =
 pub nth-room : (p : Head) (n : ℕ) (f : List ℕ) → Drawable p n f → (i : ℕ) → i < n → Room p (nth_plunge f i)
 nth-room p n f d i l = room p (nth_plunge f i) (d.fits i l)
 
-pub told-room : (p : Head) (n : ℕ) (f : List ℕ) → Drawable p n f → (i : ℕ) → i < n → (q : Plunge) → q ≡ nth_plunge f i → Room p q
-told-room p n f d i l q e = subst (Room p) (sym e) (nth-room p n f d i l)
-
 module _ (p : Head) (n : ℕ) (f : List ℕ) (sides : Sides p) (d : Drawable p n f) (i : ℕ) (l : i < n) where
   pub reach-small : (nth_plunge f i).reach.0 ≤ largest_reach
   reach-small = let r = nth-room p n f d i l in omega (arith, r.west, r.east, sides.narrow)
@@ -68,17 +63,3 @@ module _ (p : Head) (n : ℕ) (f : List ℕ) (sides : Sides p) (d : Drawable p n
         or_else : Option Plunge → Plunge → Plunge
         or_else (Some o) q = o
         or_else None q = q
-
-    pub told_none : m ≡ None → ⊥
-    told_none g = let z : ◌≡◌ {A = ℕ} 0 1 = ap number (sym g ∙ whole) in omega arith
-      where
-        number : Option Plunge → ℕ
-        number (Some o) = 1
-        number None = 0
-
-  -- its field lies in the file
-  pub field_room : place p i + plunge_bytes (size_of p) ≤ length f
-  field_room = omega (arith, d.room, place-next p i, place-le p (later l))
-    where
-      later : {a b : ℕ} → a < b → suc a ≤ b
-      later h = omega arith

@@ -54,10 +54,10 @@ fn widened(e: Extent, q: Plunge) -> Extent
     let column = q.column as usize;
     let row = q.row as usize;
     Extent {
-        left: numbers::smaller(e.left, column - reach),
-        right: numbers::larger(e.right, column + reach + 1),
-        top: numbers::smaller(e.top, row - reach),
-        bottom: numbers::larger(e.bottom, row + reach + 1),
+        left: e.left.min(column - reach),
+        right: e.right.max(column + reach + 1),
+        top: e.top.min(row - reach),
+        bottom: e.bottom.max(row + reach + 1),
     }
 }
 
@@ -67,16 +67,7 @@ fn is_wide(head: Head, e: Extent) -> bool {
     let height = head.height as usize;
     let across = width / EDGE;
     let down = height / EDGE;
-    if across < e.left {
-        return false;
-    }
-    if down < e.top {
-        return false;
-    }
-    if e.right < width - across {
-        return false;
-    }
-    height - down <= e.bottom
+    e.left <= across && e.top <= down && width - across <= e.right && height - down <= e.bottom
 }
 
 // An extent that has all balls of a file: the smallest, or the whole plate's where that one leaves little of it bare. From the last plunge on,
@@ -93,9 +84,7 @@ fn extent_of(head: Head, file: &[u8], count: usize) -> Extent
         top: height,
         bottom: 0,
     };
-    let mut i = count;
-    while 0 < i {
-        i -= 1;
+    for i in (0..count).rev() {
         extent = widened(extent, plunge_at(head, file, count, i));
         if is_wide(head, extent) {
             return Extent {
@@ -119,15 +108,13 @@ pub fn box_of(head: Head, file: &[u8], count: usize, top: usize) -> Bounds
     let height = head.height as usize;
     if count <= height * width / CELLS * top {
         let e = extent_of(head, file, count);
-        if e.left < e.right {
-            if e.top < e.bottom {
-                return Bounds {
-                    column: e.left,
-                    row: e.top,
-                    width: e.right - e.left,
-                    height: e.bottom - e.top,
-                };
-            }
+        if e.left < e.right && e.top < e.bottom {
+            return Bounds {
+                column: e.left,
+                row: e.top,
+                width: e.right - e.left,
+                height: e.bottom - e.top,
+            };
         }
     }
     Bounds {

@@ -1,7 +1,7 @@
 -- Laws of a file's bytes, of either size: how long they are, how they grow with the list, and that two heads or two lists never have the same.
 use mathlib.Core.Path.{◌≡◌, refl, sym, ap, ◌∙◌}
 use mathlib.Core.List.{List, [], ◌∷◌, ◌++◌, append_assoc}
-use Prim.Native.Nat.{ℕ, suc, ◌+◌, ◌-◌, ◌*◌, ◌/◌, ◌%◌, ◌≤◌, ◌<◌}
+use Prim.Native.Nat.{ℕ, suc, ◌+◌, ◌-◌, ◌*◌, ◌/◌, ◌%◌, ◌≤◌}
 use native.Mathlib.Omega.{arith}
 use lib.ListN.{length, length-append}
 use Rattle.geometry.specs.declared.Kind.{Kind}
@@ -50,10 +50,6 @@ bytes-suc Large n = omega arith
 pub bytes_le : (s : Size) {m n : ℕ} → m ≤ n → plunge_bytes s * m ≤ plunge_bytes s * n
 bytes_le Small h = omega arith
 bytes_le Large h = omega arith
-
-pub bytes_lt : (s : Size) {m n : ℕ} → m < n → plunge_bytes s * m + plunge_bytes s ≤ plunge_bytes s * n
-bytes_lt Small h = omega arith
-bytes_lt Large h = omega arith
 
 pub bytes_count : (s : Size) (n : ℕ) → (plunge_bytes s * n) / plunge_bytes s ≡ n
 bytes_count Small n = omega arith

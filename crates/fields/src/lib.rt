@@ -95,12 +95,15 @@ fn put_small_head(out: &mut [u8], head: Head)
     ensures { out.new ≡ spliced out.old 0 (head_field_of Small head) }
 {
     let kind = head.kind;
-    out[0] = head_tag(Size::Small);
-    out[1] = 0;
-    out[2] = head_size(Size::Small);
-    out[3] = kind.byte();
-    out[4] = head.width as u8;
-    out[5] = head.height as u8;
+    let field = [
+        head_tag(Size::Small),
+        0,
+        head_size(Size::Small),
+        kind.byte(),
+        head.width as u8,
+        head.height as u8,
+    ];
+    out[..field.len()].copy_from_slice(&field);
 }
 
 // Writes a large plate's.
@@ -109,14 +112,17 @@ fn put_large_head(out: &mut [u8], head: Head)
     ensures { out.new ≡ spliced out.old 0 (head_field_of Large head) }
 {
     let kind = head.kind;
-    out[0] = head_tag(Size::Large);
-    out[1] = 0;
-    out[2] = head_size(Size::Large);
-    out[3] = kind.byte();
-    out[4] = numbers::first_byte(head.width);
-    out[5] = numbers::second_byte(head.width);
-    out[6] = numbers::first_byte(head.height);
-    out[7] = numbers::second_byte(head.height);
+    let field = [
+        head_tag(Size::Large),
+        0,
+        head_size(Size::Large),
+        kind.byte(),
+        numbers::first_byte(head.width),
+        numbers::second_byte(head.width),
+        numbers::first_byte(head.height),
+        numbers::second_byte(head.height),
+    ];
+    out[..field.len()].copy_from_slice(&field);
 }
 
 // Writes the head's field to the first bytes.
@@ -136,13 +142,16 @@ fn put_small_plunge(out: &mut [u8], at: usize, q: Plunge)
     requires { (at + plunge_bytes Small ≤ length out.old) × PlungeFits Small q }
     ensures { out.new ≡ spliced out.old at (plunge_field Small q) }
 {
-    out[at] = plunge_tag(Size::Small);
-    out[at + 1] = 0;
-    out[at + 2] = plunge_size(Size::Small);
-    out[at + 3] = q.column as u8;
-    out[at + 4] = q.row as u8;
-    out[at + 5] = q.reach.0 as u8;
-    out[at + 6] = q.depth;
+    let field = [
+        plunge_tag(Size::Small),
+        0,
+        plunge_size(Size::Small),
+        q.column as u8,
+        q.row as u8,
+        q.reach.0 as u8,
+        q.depth,
+    ];
+    out[at..at + field.len()].copy_from_slice(&field);
 }
 
 // Writes that of a large plate's.
@@ -151,16 +160,19 @@ fn put_large_plunge(out: &mut [u8], at: usize, q: Plunge)
     ensures { out.new ≡ spliced out.old at (plunge_field Large q) }
 {
     let reach = q.reach.0;
-    out[at] = plunge_tag(Size::Large);
-    out[at + 1] = 0;
-    out[at + 2] = plunge_size(Size::Large);
-    out[at + 3] = numbers::first_byte(q.column);
-    out[at + 4] = numbers::second_byte(q.column);
-    out[at + 5] = numbers::first_byte(q.row);
-    out[at + 6] = numbers::second_byte(q.row);
-    out[at + 7] = numbers::first_byte(reach);
-    out[at + 8] = numbers::second_byte(reach);
-    out[at + 9] = q.depth;
+    let field = [
+        plunge_tag(Size::Large),
+        0,
+        plunge_size(Size::Large),
+        numbers::first_byte(q.column),
+        numbers::second_byte(q.column),
+        numbers::first_byte(q.row),
+        numbers::second_byte(q.row),
+        numbers::first_byte(reach),
+        numbers::second_byte(reach),
+        q.depth,
+    ];
+    out[at..at + field.len()].copy_from_slice(&field);
 }
 
 // Writes a plunge's field from a place on.
@@ -181,11 +193,14 @@ pub fn put_end(out: &mut [u8], at: usize, number: usize)
 {
     let high = number / 65536;
     let low = number % 65536;
-    out[at] = END_TAG;
-    out[at + 1] = 0;
-    out[at + 2] = END_SIZE;
-    out[at + 3] = numbers::low_byte(high / 256);
-    out[at + 4] = numbers::low_byte(high);
-    out[at + 5] = numbers::low_byte(low / 256);
-    out[at + 6] = numbers::low_byte(low);
+    let field = [
+        END_TAG,
+        0,
+        END_SIZE,
+        numbers::low_byte(high / 256),
+        numbers::low_byte(high),
+        numbers::low_byte(low / 256),
+        numbers::low_byte(low),
+    ];
+    out[at..at + field.len()].copy_from_slice(&field);
 }

@@ -134,10 +134,6 @@ module _ (f : List ℕ) (i : ℕ) (counts least greatest : List ℕ) (t : Tallie
         high = by-reach-more max max_comm max_assoc 0 (λ q. q.depth) (plunges_up_to i f) greatest q k u t.high s l c;
       })
 
-pub tallied-all : (f : List ℕ) (i n : ℕ) (counts least greatest : List ℕ) → i ≡ n → Tallied (plunges_up_to i f) counts least greatest
-    → Tallied (plunges_up_to n f) counts least greatest
-tallied-all f i n counts least greatest e = subst (λ (k : ℕ). Tallied (plunges_up_to k f) counts least greatest) e
-
 -- the reach of a plunge that was read is one
 pub reach-below : (f : List ℕ) (i : ℕ) (q : Plunge) → IsReadable f → i < total f → q ≡ nth_plunge f i → q.reach.0 < reaches
 reach-below f i q ok h e = omega (arith, ap (λ (o : Plunge). o.reach.0) e, (plunge-asks f i ok h).1)

@@ -28,22 +28,9 @@ each_step : {A : Type 0} (g : ℕ → A) (n i : ℕ) → i < n
 each_step g n i h = let e : n - i ≡ suc (n - (i + 1)) = omega arith in
     ap (λ (k : ℕ). gather k i (λ j. g j ∷ [])) e ∙ ap (λ (k : ℕ). g i ∷ gather (n - (i + 1)) k (λ j. g j ∷ [])) (sym (add-one i))
 
-each-end : {A : Type 0} (g : ℕ → A) (n i : ℕ) → n ≤ i → gather (n - i) i (λ j. g j ∷ []) ≡ []
-each-end g n i h = let e : n - i ≡ 0 = omega arith in ap (λ (k : ℕ). gather k i (λ j. g j ∷ [])) e
-
-each_start : {A : Type 0} (g : ℕ → A) (n : ℕ) → gather n 0 (λ j. g j ∷ []) ≡ gather (n - 0) 0 (λ j. g j ∷ [])
-each_start g n = let e : n ≡ n - 0 = omega arith in ap (λ (k : ℕ). gather k 0 (λ j. g j ∷ [])) e
-
 -- the plunges of a file from number i on
 abbrev plunges_from : List ℕ → ℕ → List Plunge
 plunges_from f i = gather (total f - i) i (λ j. nth_plunge f j ∷ [])
-
--- a file's plunges: the first, then the others
-pub first-plunge : (f : List ℕ) → 0 < total f → plunges_in f ≡ nth_plunge f 0 ∷ plunges_from f 1
-first-plunge f h = each_start (nth_plunge f) (total f) ∙ each_step (nth_plunge f) (total f) 0 h
-
-pub no-plunges : (f : List ℕ) → total f ≡ 0 → plunges_in f ≡ []
-no-plunges f h = ap (λ (n : ℕ). gather n 0 (λ j. nth_plunge f j ∷ [])) h
 
 -- the end field's number has 32 bits
 pub total-small : (f : List ℕ) → IsReadable f → ((i : ℕ) → get_or f i 0 < 256) → total f < 4294967296
@@ -57,7 +44,7 @@ pub record Walked (after : Plunge → List Plunge → ℕ) (most : ℕ) (f : Lis
   pub left : sum + after before (plunges_from f i) ≡ whole
   pub few : sum ≤ most * i
 
-module _ (after : Plunge → List Plunge → ℕ) (step : Plunge → Plunge → ℕ) (none : (q : Plunge) → after q [] ≡ 0)
+module _ (after : Plunge → List Plunge → ℕ) (step : Plunge → Plunge → ℕ)
     (more : (q o : Plunge) (qs : List Plunge) → after q (o ∷ qs) ≡ step q o + after o qs) (most : ℕ) (f : List ℕ) (whole : ℕ) where
   walked_more : (before next : Plunge) (sum i d : ℕ) → Walked after most f whole before sum i → i < total f → next ≡ nth_plunge f i
       → d ≡ step before next → d ≤ most → Walked after most f whole next (sum + d) (i + 1)
@@ -75,9 +62,6 @@ module _ (after : Plunge → List Plunge → ℕ) (step : Plunge → Plunge → 
     where
       few' : (m s i d : ℕ) → s ≤ m * i → d ≤ m → s + d ≤ m * (i + 1)
       few' m s i d a b = omega (arith, mul-add m i 1)
-
-  walked_end : (before : Plunge) (sum i : ℕ) → Walked after most f whole before sum i → total f ≤ i → sum ≡ whole
-  walked_end before sum i w h = omega (arith, w.left, ap (after before) (each-end (nth_plunge f) (total f) i h), none before)
 
 -- ---- changes and travel
 
@@ -98,38 +82,12 @@ pub step-one : (d : ℕ) (b : Bool) → d ≡ cond b 0 1 → d ≤ 1
 step-one d b e = omega (arith, e, one-most b)
 
 module _ (f : List ℕ) where
-  pub changed-none : total f ≡ 0 → 0 ≡ changes_in (plunges_in f)
-  changed-none h = sym (ap changes_in (no-plunges f h))
-
-  pub changed-first : (q : Plunge) → q ≡ nth_plunge f 0 → 0 < total f → Changed f q 1 1
-  changed-first q e h = record {
-    within = h;
-    left = ap (λ (o : Plunge). 1 + changing o (plunges_from f 1)) e ∙ sym (ap changes_in (first-plunge f h));
-    few = omega arith;
-  }
-
   pub changed-more : (before next : Plunge) (sum i d : ℕ) → Changed f before sum i → i < total f → next ≡ nth_plunge f i
       → d ≡ cond (eqb next.reach.0 before.reach.0) 0 1 → Changed f next (sum + d) (i + 1)
   changed-more before next sum i d w h e s =
-      walked_more changing (λ q o. cond (eqb o.reach.0 q.reach.0) 0 1) (λ q. refl) (λ q o qs. refl) 1 f (changes_in (plunges_in f))
+      walked_more changing (λ q o. cond (eqb o.reach.0 q.reach.0) 0 1) (λ q o qs. refl) 1 f (changes_in (plunges_in f))
       before next sum i d w h e s (step-one d (eqb next.reach.0 before.reach.0) s)
-
-  pub changed-all : (before : Plunge) (sum i : ℕ) → Changed f before sum i → total f ≤ i → sum ≡ changes_in (plunges_in f)
-  changed-all = walked_end changing (λ q o. cond (eqb o.reach.0 q.reach.0) 0 1) (λ q. refl) (λ q o qs. refl) 1 f (changes_in (plunges_in f))
-
-  pub travelled-none : total f ≡ 0 → 0 ≡ travel_in (plunges_in f)
-  travelled-none h = sym (ap travel_in (no-plunges f h))
-
-  pub travelled-first : (q : Plunge) → q ≡ nth_plunge f 0 → 0 < total f → Travelled f q 0 1
-  travelled-first q e h = record {
-    within = h;
-    left = omega (arith, ap (λ (o : Plunge). travel_after o (plunges_from f 1)) e ∙ sym (ap travel_in (first-plunge f h)));
-    few = omega arith;
-  }
 
   pub travelled-more : (before next : Plunge) (sum i d : ℕ) → Travelled f before sum i → i < total f → next ≡ nth_plunge f i
       → d ≡ dist Diamond (centre before) (centre next) → d ≤ longest_way → Travelled f next (sum + d) (i + 1)
-  travelled-more = walked_more travel_after (λ q o. dist Diamond (centre q) (centre o)) (λ q. refl) (λ q o qs. refl) longest_way f (travel_in (plunges_in f))
-
-  pub travelled-all : (before : Plunge) (sum i : ℕ) → Travelled f before sum i → total f ≤ i → sum ≡ travel_in (plunges_in f)
-  travelled-all = walked_end travel_after (λ q o. dist Diamond (centre q) (centre o)) (λ q. refl) (λ q o qs. refl) longest_way f (travel_in (plunges_in f))
+  travelled-more = walked_more travel_after (λ q o. dist Diamond (centre q) (centre o)) (λ q o qs. refl) longest_way f (travel_in (plunges_in f))

@@ -38,15 +38,12 @@ pub fn tally(
     requires { JobOf file.now job × Untallied counts.old least.old greatest.old }
     ensures { Tallied (plunges_in file.now) counts.new least.new greatest.new }
 {
-    let plunges = job.plunges;
-    let mut i = 0;
-    while i < plunges {
+    for i in 0..job.plunges {
         let q = plunge_at(file, job, i);
         let reach = q.reach.0 as usize;
-        counts[reach] = counts[reach] + 1;
-        least[reach] = window::lower(least[reach], q.depth);
-        greatest[reach] = window::higher(greatest[reach], q.depth);
-        i += 1;
+        counts[reach] += 1;
+        least[reach] = least[reach].min(q.depth);
+        greatest[reach] = greatest[reach].max(q.depth);
     }
 }
 
@@ -70,12 +67,10 @@ pub fn count_changes(file: &[u8], job: Job) -> u64
     }
     let mut before = reading::nth_plunge(file, job, 0);
     let mut changes: u64 = 1;
-    let mut i = 1;
-    while i < plunges {
+    for i in 1..plunges {
         let next = reading::nth_plunge(file, job, i);
         changes += change(before, next);
         before = next;
-        i += 1;
     }
     changes
 }
@@ -99,12 +94,10 @@ pub fn sum_travel(file: &[u8], job: Job) -> u64
     }
     let mut before = reading::nth_plunge(file, job, 0);
     let mut travel: u64 = 0;
-    let mut i = 1;
-    while i < plunges {
+    for i in 1..plunges {
         let next = reading::nth_plunge(file, job, i);
         travel += way(before, next);
         before = next;
-        i += 1;
     }
     travel
 }

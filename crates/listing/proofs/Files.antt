@@ -1,13 +1,13 @@
 -- Laws of a listing's file: what counting it gives, the room it takes, and its three parts written one after the other.
 use Rattle.std.specs.Prelude.{Ok, Err}
-use mathlib.Core.Path.{◌≡◌, refl, sym, ap, ap₂, ◌∙◌}
+use mathlib.Core.Path.{◌≡◌, refl, sym, ap, ◌∙◌}
 use mathlib.Core.Bool.{true}
 use mathlib.Core.List.{List, ◌++◌, append_assoc}
-use Prim.Native.Nat.{ℕ, suc, ◌+◌, ◌*◌, ◌-◌, ◌/◌, ◌≤◌, ◌<◌}
+use Prim.Native.Nat.{ℕ, ◌+◌, ◌*◌, ◌-◌, ◌/◌, ◌≤◌, ◌<◌}
 use native.Mathlib.Omega.{arith}
 use borrow.Author.Tests.{lt-ltb, le-ltb, eq-eqb}
-use lib.ListN.{length, get_or, set, take, drop, length-append, length-drop}
-use lib.Seq.{take-append_seam, drop_at, length-take-le, get_or-drop, paste, paste-zero, paste-suc}
+use lib.ListN.{length, take, drop, length-append}
+use lib.Seq.{take-append_seam, drop_at, length-take-le}
 use Rattle.geometry.specs.declared.Head.{Head}
 use Rattle.geometry.specs.declared.Plunge.{Plunge}
 use Rattle.geometry.specs.Sizes.{size_of}
@@ -18,15 +18,10 @@ use Rattle.fields.specs.Fields.{head_field, plunge_fields, end_field, file_lengt
 use Rattle.fields.specs.Writing.{spliced}
 use Rattle.fields.proofs.Splice.{splice-length, splice-start, splice-splice}
 use Rattle.fields.proofs.Encoding.{head-length, bytes-none, bytes_count, place-le, fields-place}
-use Rattle.listing_pass.specs.declared.Pass.{Pass}
-use Rattle.listing_pass.specs.declared.Pass.TheVariants.{Write, Stage}
+use Rattle.listing_pass.specs.declared.Pass.TheVariants.{Stage}
 use Rattle.listing_pass.specs.declared.Progress.{Progress}
 use Rattle.listing_pass.specs.Sent.{Sent}
 use Rattle.listing.specs.Staging.{stage_length, KeptPlunges, ListedInto}
-
--- a pass that stages asks for no room
-pub stage-writes-not : ◌≡◌ {A = Pass} Stage Write → ⊥
-stage-writes-not e = let z : ◌≡◌ {A = ℕ} 0 1 = cc in omega arith
 
 -- bytes that were put at a place are there
 splice-back : (old : List ℕ) (at : ℕ) (bs : List ℕ) → at + length bs ≤ length old → take (length bs) (drop at (spliced old at bs)) ≡ bs
@@ -34,28 +29,6 @@ splice-back old at bs h =
     ap (λ (l : List ℕ). take (length bs) (drop at l)) (append_assoc (take at old) bs (drop (at + length bs) old))
     ∙ ap (take (length bs)) (drop_at (take at old) (bs ++ drop (at + length bs) old) at (length-take-le at old (omega arith)))
     ∙ take-append_seam bs (drop (at + length bs) old)
-
--- and bytes that were kept are put by a copy
-pub kept_put : (p : Head) (qs : List Plunge) (kept old new : List ℕ) (end : ℕ) → end ≡ place p (length qs) → end ≤ stage_length → KeptPlunges p kept end qs
-    → new ≡ paste old (place p 0) (drop (place p 0) kept) (end - place p 0) → new ≡ spliced old (place p 0) (plunge_fields (size_of p) qs)
-kept_put p qs kept old new end e h k g =
-    let n : end - place p 0 ≡ length (plunge_fields (size_of p) qs) = omega (arith, e, fields-place p qs) in
-    g ∙ ap₂ (λ (l : List ℕ) (m : ℕ). take (place p 0) old ++ l ++ drop (place p 0 + m) old) (k h) n
-
--- nothing copied yet, and one byte more of a copy
-pub copy-none : (old src : List ℕ) (from : ℕ) → old ≡ paste old from (drop from src) (from - from)
-copy-none old src from = let e : 0 ≡ from - from = omega arith in paste-zero old from (drop from src) ∙ ap (paste old from (drop from src)) e
-
-pub copy_more : (old mid src : List ℕ) (from n : ℕ) → from ≤ n → n < length old → n < length src
-    → mid ≡ paste old from (drop from src) (n - from) → set mid n (get_or src n 0) ≡ paste old from (drop from src) (n + 1 - from)
-copy_more old mid src from n h l g e =
-    let a : from + (n - from) ≡ n = omega arith in
-    let b : n + 1 - from ≡ suc (n - from) = omega arith in
-    let k : get_or (drop from src) (n - from) 0 ≡ get_or src n 0 = get_or-drop from src (n - from) 0 ∙ ap (λ (i : ℕ). get_or src i 0) a in
-    ap (λ (o : List ℕ). set o n (get_or src n 0)) e
-    ∙ ap₂ (λ (i v : ℕ). set (paste old from (drop from src) (n - from)) i v) (sym a) (sym k)
-    ∙ paste-suc old from (drop from src) (n - from) 0 (omega arith) (omega (arith, length-drop from src))
-    ∙ ap (paste old from (drop from src)) (sym b)
 
 module _ (p : Head) (file : List ℕ) (qs : List Plunge) (old new : List ℕ) (t : Progress)
     (s : Sent Stage file (place p 0) (plunge_fields (size_of p) qs) old new t) where

@@ -1,8 +1,7 @@
 // The listing of a relief as a whole plunge file.
 #![tactic(auto)]
 
-ghost use Rattle.std.specs.Prelude.{◌≡◌, ◌-◌, ◌≤◌, length, drop};
-ghost use Rattle.std.proofs.Math.Seq.{paste};
+ghost use Rattle.std.specs.Prelude.{◌≡◌};
 ghost use Rattle.theory.specs.Listing.{listing};
 ghost use Rattle.refusal.specs.Refusals.{largest_erosion};
 ghost use Rattle.buffers.specs.Fill.{PlateOnly};
@@ -27,18 +26,6 @@ pub struct Extent {
 // The bytes of a file that the first pass can keep: the plunges of a longer one are found again by a second pass.
 pub const STAGE: usize = 32768;
 
-// Copies the bytes from one place up to another, to the same places of another buffer.
-fn copy_stretch(src: &[u8], dst: &mut [u8], from: usize, to: usize)
-    requires { (from ≤ to) × (to ≤ length src.now) × (to ≤ length dst.old) }
-    ensures { dst.new ≡ paste dst.old from (drop from src.now) (to - from) }
-{
-    let mut n = from;
-    while n < to {
-        dst[n] = src[n];
-        n += 1;
-    }
-}
-
 // Writes the plunges of a relief's listing to an output behind the head: those that were kept, else by another pass.
 fn put_plunges(
     head: Head,
@@ -54,7 +41,8 @@ fn put_plunges(
         × PlateOnly head a.old a.new × PlateOnly head b.old b.new }
 {
     if end <= STAGE {
-        copy_stretch(kept, out, fields::place(head, 0), end);
+        let start = fields::place(head, 0);
+        out[start..end].copy_from_slice(&kept[start..end]);
         return;
     }
     listing_plunges::send_listing(head, Pass::Write, relief, relief, out, a, b);

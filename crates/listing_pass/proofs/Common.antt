@@ -1,15 +1,12 @@
--- Laws of the common beginning of two lists, as a loop finds it and as bytes are added.
-use mathlib.Core.Path.{◌≡◌, refl, sym, ap, ◌∙◌}
+-- Laws of the common beginning of two lists, as bytes are added.
+use mathlib.Core.Path.{◌≡◌, refl, sym}
 use mathlib.Core.Bool.{Bool, true, false, cond}
 use mathlib.Core.List.{List, [], ◌∷◌, ◌++◌}
 use Prim.Native.Nat.{ℕ, suc, ◌+◌, ◌≤◌, ◌<◌}
 use native.Mathlib.Omega.{arith}
 use native.Mathlib.Nat.{zero-add}
-use native.Mathlib.Numerals.{add-one}
-use borrow.Author.Tests.{eq-eqb, ne_eqb}
 use lib.Dec.{eqb}
-use lib.ListN.{length, get_or, drop, drop_of_length-le}
-use lib.Seq.{drop-cons}
+use lib.ListN.{length, drop}
 use Rattle.geometry.specs.Lists.{common}
 
 pub common-le : (fs bs : List ℕ) → common fs bs ≤ length bs
@@ -43,38 +40,3 @@ common-off (a ∷ fs) (b ∷ bs) cs h = go (eqb a b) h (common-off fs bs cs)
         → cond t (suc (common fs (bs ++ cs))) 0 ≡ cond t (suc (common fs bs)) 0
     go true g r = omega (arith, r (omega arith))
     go false g r = refl
-
--- ---- byte by byte
-
--- the first i bytes are common
-pub record Alike (fs bs : List ℕ) (at i : ℕ) : Type 0 where
-  pub within : i ≤ length bs
-  pub more : common (drop at fs) bs ≡ i + common (drop (at + i) fs) (drop i bs)
-
-module _ (fs bs : List ℕ) (at : ℕ) where
-  pub alike-none : Alike fs bs at 0
-  alike-none = record { within = omega arith; more = let e : at + 0 ≡ at = omega arith in rw e (sym (zero-add (common (drop at fs) bs))) }
-
-  module _ (i : ℕ) (h : Alike fs bs at i) where
-    -- all are common
-    pub alike_all : length bs ≤ i → i ≡ common (drop at fs) bs
-    alike_all l = omega (arith, h.more, ap (common (drop (at + i) fs)) (drop_of_length-le bs l))
-
-    -- the file ends here
-    pub alike-short : i < length bs → length fs ≤ at + i → i ≡ common (drop at fs) bs
-    alike-short l g = let e : common (drop (at + i) fs) (drop i bs) ≡ 0 = rw (drop_of_length-le fs g, drop-cons bs i 0 l) in omega (arith, h.more)
-
-    split : i < length bs → at + i < length fs
-        → common (drop (at + i) fs) (drop i bs) ≡ cond (eqb (get_or fs (at + i) 0) (get_or bs i 0)) (suc (common (drop (suc (at + i)) fs) (drop (suc i) bs))) 0
-    split l g = rw (drop-cons fs (at + i) 0 g, drop-cons bs i 0 l)
-
-    -- the next byte is unlike
-    pub alike-off : i < length bs → at + i < length fs → (get_or fs (at + i) 0 ≡ get_or bs i 0 → ⊥) → i ≡ common (drop at fs) bs
-    alike-off l g d = let e : common (drop (at + i) fs) (drop i bs) ≡ 0 = split l g ∙ rw (ne_eqb _ _ d) in omega (arith, h.more)
-
-    -- the next byte is alike
-    pub alike-more : i < length bs → at + i < length fs → get_or fs (at + i) 0 ≡ get_or bs i 0 → Alike fs bs at (i + 1)
-    alike-more l g d =
-        let e : common (drop (at + i) fs) (drop i bs) ≡ suc (common (drop (suc (at + i)) fs) (drop (suc i) bs)) = split l g ∙ rw (eq-eqb _ _ d) in
-        let k : at + (i + 1) ≡ suc (at + i) = omega arith in
-        record { within = omega arith; more = rw (k, add-one i) (omega (arith, h.more)) }

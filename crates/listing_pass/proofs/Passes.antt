@@ -15,7 +15,7 @@ use Rattle.fields.proofs.Splice.{splice-nil, splice-length, splice-splice}
 use Rattle.listing_pass.specs.declared.Pass.{Pass}
 use Rattle.listing_pass.specs.declared.Pass.TheVariants.{Write, Compare, Stage}
 use Rattle.listing_pass.specs.declared.Progress.{Progress}
-use Rattle.listing_pass.specs.Sent.{reached, Staged, Passed, Compared, Sent, Room}
+use Rattle.listing_pass.specs.Sent.{reached, Staged, Passed, Sent, Room}
 use Rattle.listing_pass.proofs.Common.{common-le, common-on, common-off}
 
 -- ---- bytes
@@ -44,9 +44,6 @@ module _ (pass : Pass) (file : List ℕ) (at : ℕ) (bs old new : List ℕ) wher
   pub sent-staged : pass ≡ Stage → Staged old at bs new → Sent pass file at bs old new (record { at = at + length bs; like = true })
   sent-staged e g = subst (λ o. Sent o file at bs old new (record { at = at + length bs; like = true })) (sym e)
       (record { place = refl; like = sym (eqb_same (length bs)); bytes = g })
-
-  pub sent-compared : pass ≡ Compare → (r : Progress) → Compared file at bs r → Sent pass file at bs old old r
-  sent-compared e r c = subst (λ o. Sent o file at bs old old r) (sym e) (record { place = c.place; like = c.like; bytes = refl })
 
 module _ (pass : Pass) (file : List ℕ) (at : ℕ) (bs old new : List ℕ) (r : Progress) (s : Sent pass file at bs old new r) where
   -- a pass that went over all

@@ -25,17 +25,10 @@ pub fn common_run(file: &[u8], at: usize, bytes: &[u8]) -> usize
     requires { IsLength (at + length bytes.now) }
     ensures { result ≡ common (drop at file.now) bytes.now }
 {
-    let end = bytes.len();
-    let mut i = 0;
-    while i < end {
-        let n = at + i;
-        if file.len() <= n {
+    for (i, byte) in bytes.iter().enumerate() {
+        if file.get(at + i) != Some(byte) {
             return i;
         }
-        if file[n] != bytes[i] {
-            return i;
-        }
-        i += 1;
     }
-    i
+    bytes.len()
 }

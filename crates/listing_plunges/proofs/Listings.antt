@@ -1,7 +1,7 @@
 -- Laws of a whole listing: what was sent so far, one run more, and where it ends.
 use mathlib.Core.Path.{◌≡◌, refl, sym, ap, ◌∙◌, subst}
 use mathlib.Core.Bool.{true, false}
-use mathlib.Core.List.{List, [], ◌++◌}
+use mathlib.Core.List.{List, ◌++◌}
 use Prim.Native.Nat.{ℕ, ◌+◌, ◌*◌, ◌≤◌}
 use native.Mathlib.Omega.{arith}
 use lib.ListN.{length, length-append}
@@ -12,19 +12,19 @@ use Rattle.geometry.specs.Sizes.{size_of}
 use Rattle.theory.specs.Listing.{listing}
 use Rattle.refusal.specs.Refusals.{largest_erosion}
 use Rattle.buffers.specs.Fill.{PlateOnly}
-use Rattle.erosion_series.proofs.Pairs.{kept-none, kept_more}
+use Rattle.erosion_series.proofs.Pairs.{kept_more}
 use Rattle.fields.specs.Lengths.{IsLength}
 use Rattle.fields.specs.Fields.{plunge_fields, plunge_bytes, place}
 use Rattle.fields.proofs.Encoding.{plunge_fields-append, field-few, place-fields, place-small}
 use Rattle.residue_marks.specs.Marks.{mark_places}
 use Rattle.climb.specs.declared.Climb.{Climb}
 use Rattle.climb.specs.declared.Step.{Step}
-use Rattle.climb.specs.Climbs.{found_plunges, Climbing, Begun, StepOf, Stepped}
+use Rattle.climb.specs.Climbs.{found_plunges, Climbing, StepOf, Stepped}
 use Rattle.climb.proofs.Climbs.{climbing-end, climbing-rest}
 use Rattle.listing_pass.specs.declared.Pass.{Pass}
 use Rattle.listing_pass.specs.declared.Progress.{Progress}
 use Rattle.listing_pass.specs.Sent.{Sent, Room}
-use Rattle.listing_pass.proofs.Passes.{sent-none, sent-all, sent-same, sent-more, sent-stops}
+use Rattle.listing_pass.proofs.Passes.{sent-all, sent-same, sent-more, sent-stops}
 use Rattle.listing_plunges.specs.declared.Sending.{Sending}
 use Rattle.listing_plunges.specs.Runs.{ToSend}
 use Rattle.listing_plunges.proofs.Plunges.{listing-few}
@@ -37,18 +37,6 @@ pub record Listed (pass : Pass) (file : List ℕ) (p : Head) (m old a b : List �
   pub first : PlateOnly p a a'
   pub second : PlateOnly p b b'
   pub same : length new ≡ length old
-
-pub listed_start : (pass : Pass) (file : List ℕ) (p : Head) (m old a a' b b' : List ℕ) (c : Climb) (end : ℕ) → Begun p m a a' b b' c → end ≡ place p 0
-    → Listed pass file p m old a' b' c old a' b' end
-listed_start pass file p m old a a' b b' c end t e =
-    record {
-      done = [];
-      climbs = t.climbs;
-      sent = subst (λ (n : ℕ). Sent pass file (place p 0) [] old old (record { at = n; like = true })) (sym e) (sent-none pass file (place p 0) old);
-      first = kept-none p a';
-      second = kept-none p b';
-      same = refl;
-    }
 
 -- of the plate that the climb knows
 pub listed-plate : (pass : Pass) (file m old a b : List ℕ) (c : Climb) (new a' b' : List ℕ) (end : ℕ) (p p' : Head) → p ≡ p'

@@ -2,9 +2,9 @@
 use mathlib.Core.Path.{◌≡◌, refl, sym, ap, ap₂, ◌∙◌, subst}
 use mathlib.Core.Bool.{Bool, true, false, cond}
 use mathlib.Core.List.{List, [], ◌∷◌, ◌++◌, append-nil, map, map-append}
-use Prim.Native.Nat.{ℕ, zero, suc, ◌+◌, ◌*◌, ◌-◌, ◌%◌, ◌/◌, ◌≤◌, ◌<◌}
+use Prim.Native.Nat.{ℕ, zero, suc, ◌+◌, ◌*◌, ◌≤◌, ◌<◌}
 use native.Mathlib.Omega.{arith}
-use native.Mathlib.Nat.{mod-lt, div-lt_iff_lt-mul, mul-le-mul}
+use native.Mathlib.Nat.{mul-le-mul}
 use native.Mathlib.Numerals.{add-one}
 use native.Mathlib.Decide.{dec_le}
 use borrow.Author.Tests.{eq-eqb, ne_eqb}
@@ -21,9 +21,9 @@ use Rattle.fields.specs.Fields.{plunge_field, plunge_fields, plunge_bytes}
 use Rattle.fields.specs.Lengths.{IsLength}
 use Rattle.fields.specs.Fits.{PlungeFits}
 use Rattle.fields.specs.Writing.{spliced}
-use Rattle.fields.proofs.Splice.{splice-nil, splice-start, splice-length, splice-splice}
+use Rattle.fields.proofs.Splice.{splice-start, splice-length, splice-splice}
 use Rattle.fields.proofs.Encoding.{field-length, plunge_fields-append, plunge_fields-length, fields-few}
-use Rattle.residue_marks.specs.Marks.{mark_places, tally, on_place, marked_places, NotePlaces, Noted}
+use Rattle.residue_marks.specs.Marks.{mark_places, tally, on_place, marked_places, NotePlaces}
 use Rattle.residue_marks.proofs.Marking.{tally-few}
 use Rattle.residue_series.specs.Plunges.{on_mark, marks_to}
 use Rattle.climb.specs.declared.Region.{Region}
@@ -33,10 +33,10 @@ use Rattle.residue_series.proofs.Plunges.{tally-length}
 use Rattle.listing_pass.specs.declared.Pass.{Pass}
 use Rattle.listing_pass.specs.declared.Pass.TheVariants.{Write, Compare, Stage}
 use Rattle.listing_pass.specs.declared.Progress.{Progress}
-use Rattle.listing_pass.specs.Sent.{Compared, Staged, Sent}
+use Rattle.listing_pass.specs.Sent.{Compared, Sent}
 use Rattle.listing_pass.proofs.Common.{common-le}
-use Rattle.listing_pass.proofs.Passes.{sent-none, sent-all, sent-more, sent-stops, sent-written, sent-staged}
-use Rattle.listing_plunges.specs.Runs.{PlaceOf, Bounded, NotedAt, noted_plunge}
+use Rattle.listing_pass.proofs.Passes.{sent-all, sent-more, sent-stops}
+use Rattle.listing_plunges.specs.Runs.{Bounded, NotedAt, noted_plunge}
 
 -- a region of a plate has no more cells than a plate may have
 region-few : (r : Region) → r.column + r.head.width ≤ largest_side → r.row + r.head.height ≤ largest_side → area r.head ≤ largest_side * largest_side
@@ -44,21 +44,6 @@ region-few r a b =
     let h : r.head.height ≤ largest_side = omega arith in
     let w : r.head.width ≤ largest_side = omega arith in
     mul-le-mul h w
-
--- the column and the row of a place
-module _ (f : Found) (n : ℕ) (o : PlaceOf f n) where
-  pub place-small : (n % f.region.head.width + f.region.column < largest_side) × (n / f.region.head.width + f.region.row < largest_side)
-  place-small =
-      let a = o.across in
-      let b = o.down in
-      (omega (arith, mod-lt n o.wide), omega (arith, (div-lt_iff_lt-mul o.wide).1 o.within))
-
-  pub place-few : n < largest_side * largest_side
-  place-few = omega (arith, o.within, region-few f.region o.across o.down)
-
--- a run has no more places than a plate may have
-pub found-few : (f : Found) (marks : List ℕ) → FoundMarks f marks → area f.region.head ≤ largest_side * largest_side
-found-few f marks m = region-few f.region m.across m.down
 
 -- a comparison is a pass
 as-compared : (file : List ℕ) (at : ℕ) (bs : List ℕ) (r : Progress) → Sent Compare file at bs [] [] r → Compared file at bs r
@@ -107,12 +92,6 @@ pub record NotedRun (f : Found) (marks noted : List ℕ) (count : ℕ) : Type 0 
 -- what noting them asks
 pub noting : (f : Found) (marks noted : List ℕ) → FoundMarks f marks → length noted ≡ mark_places → NotePlaces 0 f.places.number 0 marks noted
 noting f marks noted m e = record { ordered = omega arith; within = omega (arith, m.short); few = omega arith; size = m.size; room = e }
-
-pub noted-run : (f : Found) (marks noted₀ noted : List ℕ) (count : ℕ) → FoundMarks f marks → length noted₀ ≡ mark_places
-    → Noted marks 0 f.places.number 0 noted₀ count noted → NotedRun f marks noted count
-noted-run f marks noted₀ noted count m long n =
-    let e : f.places.number - 0 ≡ f.places.number = omega arith in
-    record { marked = m; size = n.same ∙ long; few = n.few; places = n.places ∙ ap (λ (k : ℕ). marked_places marks k 0) e }
 
 -- the plunges of the first j noted places
 abbrev pub first_noted : Found → List ℕ → List ℕ → ℕ → List Plunge
@@ -213,9 +192,6 @@ module _ (s : Size) (f : Found) (marks noted : List ℕ) (count : ℕ) (n : Note
 
   -- ---- written
 
-  pub put-none : (at : ℕ) (old : List ℕ) → Put s f marks noted count at old 0 old at
-  put-none at old = record { within = omega arith; written = sym (splice-nil old at); reached = omega arith }
-
   module _ (at : ℕ) (old : List ℕ) (j : ℕ) (mid : List ℕ) (place : ℕ) (h : Put s f marks noted count at old j mid place)
       (room : at + length (plunge_fields s (found_plunges f marks)) ≤ length old) where
     fits : at + length (plunge_fields s (first_noted f marks noted j)) ≤ length old
@@ -248,9 +224,6 @@ module _ (s : Size) (f : Found) (marks noted : List ℕ) (count : ℕ) (n : Note
           }
 
   -- ---- compared
-
-  pub like-none : (file : List ℕ) (at : ℕ) → Like s f marks noted count file at 0 at
-  like-none file at = record { within = omega arith; sent = sent-none Compare file at [] }
 
   module _ (file : List ℕ) (at j place : ℕ) (h : Like s f marks noted count file at j place) where
     like-place : place ≡ at + length (plunge_fields s (first_noted f marks noted j))
@@ -296,31 +269,6 @@ module _ (s : Size) (f : Found) (marks noted : List ℕ) (count : ℕ) (n : Note
           as-compared _ _ _ _
           (subst (λ (o : List ℕ). Sent Compare file at o [] [] (record { at = place + m; like = false })) (sym (fields-rest j less))
           (sent-stops Compare file at (plunge_fields s (first_noted f marks noted (j + 1))) _ [] [] _ (subst Next unlike both) refl))
-
--- ---- a run sent
-
-module _ (pass : Pass) (s : Size) (file : List ℕ) (at : ℕ) (qs : List Plunge) (old new : List ℕ) where
-  pub none-sent : qs ≡ [] → Sent pass file at (plunge_fields s qs) old old (record { at = at; like = true })
-  none-sent e = subst (λ (l : List Plunge). Sent pass file at (plunge_fields s l) old old (record { at = at; like = true })) (sym e) (sent-none pass file at old)
-
-  module _ (r : ℕ) (reached : r ≡ at + length (plunge_fields s qs)) where
-    pub run-written : pass ≡ Write → new ≡ spliced old at (plunge_fields s qs) → Sent pass file at (plunge_fields s qs) old new (record { at = r; like = true })
-    run-written e g =
-        subst (λ (j : ℕ). Sent pass file at (plunge_fields s qs) old new (record { at = j; like = true })) (sym reached)
-        (sent-written pass file at (plunge_fields s qs) old new e g)
-
-    pub run-staged : pass ≡ Stage → Staged old at (plunge_fields s qs) new → Sent pass file at (plunge_fields s qs) old new (record { at = r; like = true })
-    run-staged e g =
-        subst (λ (j : ℕ). Sent pass file at (plunge_fields s qs) old new (record { at = j; like = true })) (sym reached)
-        (sent-staged pass file at (plunge_fields s qs) old new e g)
-
--- fields that were written where there was room for them, and fields for which there is none
-module _ (at : ℕ) (bs old new : List ℕ) (bytes : ℕ) (is : bytes ≡ length bs) where
-  pub staged-long : at + bytes ≤ length old → new ≡ spliced old at bs → Staged old at bs new
-  staged-long h g = (ap length g ∙ splice-length old at bs (omega arith), λ l. g)
-
-  pub staged-short : length old < at + bytes → Staged old at bs old
-  staged-short h = (refl, λ l. absurd (omega arith))
 
 -- ---- a plunge's field
 

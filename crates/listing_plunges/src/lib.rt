@@ -83,12 +83,10 @@ fn put_marks(
 {
     let count = residue_marks::note_marks(marks, found.places.number, noted);
     let mut place = at;
-    let mut j = 0;
-    while j < count {
+    for j in 0..count {
         let q = noted_plunge(found, marks, noted, j);
         fields::put_plunge(size, out, place, q);
         place += fields::plunge_bytes(size);
-        j += 1;
     }
     place
 }
@@ -126,8 +124,7 @@ fn compare_marks(
 {
     let count = residue_marks::note_marks(marks, found.places.number, noted);
     let mut place = at;
-    let mut j = 0;
-    while j < count {
+    for j in 0..count {
         let q = noted_plunge(found, marks, noted, j);
         let n = compare_plunge(size, q, file, place);
         place += n;
@@ -137,7 +134,6 @@ fn compare_marks(
                 like: false,
             };
         }
-        j += 1;
     }
     Progress {
         at: place,

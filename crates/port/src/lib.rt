@@ -95,32 +95,24 @@ pub struct PortAnswer {
 fn after_command(status: u8, command: u8) -> u8
     ensures { result ≡ turned commands status command }
 {
-    if command == START {
-        return if status == READY { BUSY } else { status };
+    match (command, status) {
+        (START, READY) => BUSY,
+        (ACKNOWLEDGE, DONE) => READY,
+        (ACKNOWLEDGE, FAILED) => FAULT,
+        (CLEAR, FAULT) => READY,
+        _ => status,
     }
-    if command == ACKNOWLEDGE {
-        if status == DONE {
-            return READY;
-        }
-        return if status == FAILED { FAULT } else { status };
-    }
-    if command == CLEAR {
-        return if status == FAULT { READY } else { status };
-    }
-    status
 }
 
 // The same for an event.
 fn after_event(status: u8, event: u32) -> u8
     ensures { result ≡ turned events status event }
 {
-    if event == DONE_EVENT {
-        return if status == BUSY { DONE } else { status };
+    match (event, status) {
+        (DONE_EVENT, BUSY) => DONE,
+        (FAULT_EVENT, BUSY) => FAILED,
+        _ => status,
     }
-    if event == FAULT_EVENT {
-        return if status == BUSY { FAILED } else { status };
-    }
-    status
 }
 
 // ---- a step
@@ -149,21 +141,11 @@ fn count(port: Port) -> u16
     numbers::of_bytes(bytes[DONE_HIGH], bytes[DONE_LOW])
 }
 
-// One more, up to the largest count.
-fn one_more(count: u16) -> u16
-    ensures { result ≡ min largest_count (count + 1) }
-{
-    if count == LARGEST_COUNT {
-        return LARGEST_COUNT;
-    }
-    count + 1
-}
-
-// The port with one plunge more done.
+// The port with one plunge more done, up to the largest count.
 fn counted(port: Port) -> Port
     ensures { result ≡ with_count (min largest_count (count port + 1)) port }
 {
-    let after = one_more(count(port));
+    let after = count(port).saturating_add(1);
     let first = with_byte(port, DONE_HIGH, numbers::first_byte(after));
     with_byte(first, DONE_LOW, numbers::second_byte(after))
 }
@@ -208,10 +190,7 @@ fn command(port: Port, value: u8) -> PortAnswer
 pub fn write(port: Port, index: usize, value: u8) -> PortAnswer
     ensures { result ≡ written port index value }
 {
-    if index == STATUS {
-        return refused(port, 16);
-    }
-    if DONE_HIGH <= index {
+    if index == STATUS || DONE_HIGH <= index {
         return refused(port, 16);
     }
     if index == COMMAND {

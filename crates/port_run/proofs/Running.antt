@@ -9,7 +9,7 @@ use lib.Seq.{sets-eq}
 use Rattle.geometry.specs.Lists.{gather}
 use Rattle.theory.proofs.Lists.{gather-more, length-each}
 use Rattle.fields.specs.Writing.{spliced}
-use Rattle.fields.proofs.Splice.{splice-nil, splice-start, splice-length, splice-splice}
+use Rattle.fields.proofs.Splice.{splice-start, splice-length, splice-splice}
 use Rattle.port.specs.declared.Port.{Port}
 use Rattle.port.specs.declared.Input.{Input}
 use Rattle.port.specs.declared.PortAnswer.{PortAnswer}
@@ -17,7 +17,7 @@ use Rattle.port.specs.Machine.{step}
 use Rattle.port_theorems.specs.Runs.{port_after, answers}
 use Rattle.port_theorems.proofs.Runs.{after-append, answers-append}
 use Rattle.port_run.specs.Traces.{input_at, input_count, inputs_in, number_of, numbers_of}
-use Rattle.port_run.specs.Inputs.{InputThere, InputRun, Roomy, InputsRun}
+use Rattle.port_run.specs.Inputs.{InputRun, InputsRun}
 
 -- the first k inputs of a trace
 abbrev pub inputs_to : List ℕ → ℕ → List Input
@@ -58,16 +58,8 @@ module _ (p : Port) (t old : List ℕ) where
   numbers-to : (k : ℕ) → length (numbers_of (answers p (inputs_to t k))) ≡ k
   numbers-to k = numbers-length p (inputs_to t k) ∙ length-each (input_at t) k 0
 
-  pub run_none : RunTo p t old 0 old p
-  run_none = record { port = refl; numbers = sym (splice-nil old 0) }
-
   pub run_length : (k : ℕ) (now : List ℕ) (q : Port) → k ≤ length old → RunTo p t old k now q → length now ≡ length old
   run_length k now q h r = ap length r.numbers ∙ splice-length old 0 (numbers_of (answers p (inputs_to t k))) (omega (arith, h, numbers-to k))
-
-  -- the next input is there
-  pub run-next : (k : ℕ) (now : List ℕ) (q : Port) → Roomy t old → k < input_count (length t) → RunTo p t old k now q → InputThere t k now
-  run-next k now q roomy h r =
-      record { whole = omega (arith, h); room = omega (arith, h, roomy.room, run_length k now q (omega (arith, h, roomy.room)) r) }
 
   -- one input more, from the port behind those before it
   pub run_more : (k : ℕ) (now next : List ℕ) (q r : Port) → k < length old → RunTo p t old k now q → InputRun q t k now next r

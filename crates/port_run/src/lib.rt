@@ -84,10 +84,8 @@ fn run_inputs(port: Port, trace: &[u8], numbers: &mut [u8]) -> Port
 {
     let count = trace.len() / TRACE_STEP;
     let mut after = port;
-    let mut k = 0;
-    while k < count {
+    for k in 0..count {
         after = run_input(after, trace, k, numbers);
-        k += 1;
     }
     after
 }

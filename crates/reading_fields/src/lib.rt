@@ -52,11 +52,7 @@ pub fn opens(file: &[u8], at: usize, field: Opening) -> bool
     requires { at + opening ≤ length file.now }
     ensures { result ≡ begins field file.now at }
 {
-    if file[at] == field.tag {
-        return 256 * numbers::wide(file[at + 1]) + numbers::wide(file[at + 2])
-            == (field.size as usize);
-    }
-    false
+    file[at] == field.tag && numbers::of_bytes(file[at + 1], file[at + 2]) == field.size
 }
 
 // Refusal 6 where the bytes left at a place do not hold a content.
@@ -96,8 +92,8 @@ fn number_at(file: &[u8], at: usize) -> usize
     requires { at + end_bytes ≤ length file.now }
     ensures { result ≡ number_at file.now at }
 {
-    let high = 256 * numbers::wide(file[at + 3]) + numbers::wide(file[at + 4]);
-    let low = 256 * numbers::wide(file[at + 5]) + numbers::wide(file[at + 6]);
+    let high = numbers::of_bytes(file[at + 3], file[at + 4]) as usize;
+    let low = numbers::of_bytes(file[at + 5], file[at + 6]) as usize;
     65536 * high + low
 }
 

@@ -145,7 +145,7 @@ module _ (s file : List ℕ) (n : ℕ) (f : ListedFile s file n) where
       (trial (ltb file_buffer (list_length s)) 5 (list_length s) ∷ [])) ∙ f.accepted) in
       (map-sound (byte_in s 0) (byte_in s 1) (byte_in s 2) false (length (depths s)) both.0, room (ltb file_buffer (list_length s)) refl both.1)
     where
-      room : (t : Bool) → ltb file_buffer (list_length s) ≡ t → cond t (Err (record { number = 5; place = list_length s })) (Ok tt) ≡ Ok tt → list_length s ≤ file_buffer
+      room : (t : Bool) → ltb file_buffer (list_length s) ≡ t → cond {A = Verdict} t (Err (record { number = 5; place = list_length s })) (Ok tt) ≡ Ok tt → list_length s ≤ file_buffer
       room true e v = let z : ◌≡◌ {A = ℕ} 0 1 = cc in absurd (omega arith)
       room false e v = ltb-false _ _ e
 

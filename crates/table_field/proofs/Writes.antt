@@ -5,13 +5,13 @@ use Prim.Native.Nat.{ℕ, zero, suc, ◌+◌, ◌*◌, ◌/◌, ◌%◌, ◌≤�
 use native.Mathlib.Nat.{zero-add}
 use native.Mathlib.Numerals.{add-one}
 use native.Mathlib.Omega.{arith}
-use lib.ListN.{length, get_or, set, drop, length-append, length-set}
+use lib.ListN.{length, get_or, set, drop, length-append}
 use lib.Seq.{sets-eq, drop-length}
 use Rattle.geometry.specs.Lists.{gather}
 use Rattle.theory.proofs.Lists.{gather-more, length-each}
 use Rattle.fields.specs.Fields.{two, opening, field}
 use Rattle.fields.specs.Writing.{spliced}
-use Rattle.fields.proofs.Splice.{splice-nil, splice-start, splice-length, splice-splice}
+use Rattle.fields.proofs.Splice.{splice-start, splice-length, splice-splice}
 use Rattle.sink.specs.Sink.{table_entries}
 use Rattle.table_field.specs.Tables.{table_tag, table_size, table_bytes, entry_place, entry_in, entries_in, entry_bytes, table_field}
 
@@ -29,9 +29,6 @@ module _ (f old : List ℕ) where
   -- the first n entries are read
   abbrev pub ReadTo : ℕ → List ℕ → Type 0
   ReadTo n now = now ≡ spliced old 0 (gather n 0 (λ i. entry_in f i ∷ []))
-
-  pub read_none : ReadTo 0 old
-  read_none = sym (splice-nil old 0)
 
   read_length : (n : ℕ) (now : List ℕ) → n ≤ length old → ReadTo n now → length now ≡ length old
   read_length n now h e = ap length e ∙ splice-length old 0 (gather n 0 (λ i. entry_in f i ∷ [])) (omega (arith, length-each (entry_in f) n 0))
@@ -68,9 +65,6 @@ module _ (table : List ℕ) where
   PutTo old n now = now ≡ spliced old opening (gather n 0 pair)
 
   module _ (old : List ℕ) where
-    pub put-none : PutTo old 0 old
-    put-none = sym (splice-nil old opening)
-
     pub put_all : (now : List ℕ) → PutTo old table_entries now → now ≡ spliced old opening (entry_bytes table)
     unfolding entry_bytes
     put_all now e = e
@@ -104,10 +98,6 @@ opened-put : (old content : List ℕ) (tag high low : ℕ) → opening + length 
 opened-put old content tag high low h x y =
     rw (x, y, sets-eq (tag ∷ (length content / 256) ∷ (length content % 256) ∷ []) old 0 (omega arith))
     (splice-splice old 0 (tag ∷ (length content / 256) ∷ (length content % 256) ∷ []) content (omega arith))
-
-pub opened-room : (old : List ℕ) (high low : ℕ) → table_bytes ≤ length old → table_bytes ≤ length (set (set (set old 0 table_tag) 1 high) 2 low)
-opened-room old high low h =
-    omega (arith, h, length-set (set (set old 0 table_tag) 1 high) 2 low, length-set (set old 0 table_tag) 1 high, length-set old 0 table_tag)
 
 pub field_put : (table old now : List ℕ) (high low : ℕ) → table_bytes ≤ length old → high ≡ table_size / 256 → low ≡ table_size % 256
     → now ≡ spliced (set (set (set old 0 table_tag) 1 high) 2 low) opening (entry_bytes table) → now ≡ spliced old 0 (table_field table)

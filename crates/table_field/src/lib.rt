@@ -33,13 +33,11 @@ fn entry_place(i: usize) -> usize
 pub fn check_rule(table: &[u16; ENTRIES]) -> Verdict
     ensures { result ≡ first_met (rule_trials table.now) }
 {
-    let mut i = 0;
-    while i < ENTRIES {
+    for i in 0..ENTRIES {
         if sink::breaks_rule(table, i) {
             let place = entry_place(i);
             return refusal::refuse(15, place);
         }
-        i += 1;
     }
     Ok(())
 }
@@ -66,13 +64,11 @@ fn read_entries(field: &[u8], entries: &mut [u16; ENTRIES])
     requires { (table_bytes ≤ length field.now) × (length entries.old ≡ table_entries) }
     ensures { entries.new ≡ entries_in field.now }
 {
-    let mut i = 0;
-    while i < ENTRIES {
+    for (i, entry) in entries.iter_mut().enumerate() {
         let at = entry_place(i);
         let high = field[at];
         let low = field[at + 1];
-        entries[i] = numbers::of_bytes(high, low);
-        i += 1;
+        *entry = numbers::of_bytes(high, low);
     }
 }
 
@@ -103,13 +99,10 @@ fn put_entries(table: &[u16; ENTRIES], out: &mut [u8])
     requires { table_bytes ≤ length out.old }
     ensures { out.new ≡ spliced out.old opening (entry_bytes table.now) }
 {
-    let mut i = 0;
-    while i < ENTRIES {
+    for (i, entry) in table.iter().enumerate() {
         let at = entry_place(i);
-        let entry = table[i];
-        out[at] = numbers::first_byte(entry);
-        out[at + 1] = numbers::second_byte(entry);
-        i += 1;
+        out[at] = numbers::first_byte(*entry);
+        out[at + 1] = numbers::second_byte(*entry);
     }
 }
 

@@ -1,14 +1,7 @@
 -- `crop` moves row after row: the invariant is that the rows before the one reached are cropped, and all that lies past them is as it was.
-use mathlib.Core.Path.{◌≡◌}
-use Prim.Native.Nat.{◌-◌, ◌≤◌}
-use lib.ListN.{length}
-use Rattle.refusal.specs.Refusals.{largest_side}
 use Rattle.bounding_box.specs.Boxes.{CroppedRows}
 use Rattle.bounding_box.proofs.crop.Given as goal
 
 abbrev pub invariant-loop-y : goal.invariant-loop-y
-invariant-loop-y l = (l.y ≤ l.height) × (length l.line ≡ largest_side)
-    × CroppedRows l.width (record { column = l.left; row = l.top; width = l.count; height = l.height }) l.y l.initial.map l.map
-
-abbrev pub decreases-loop-y : goal.decreases-loop-y
-decreases-loop-y l = l.height - l.y
+invariant-loop-y l =
+    CroppedRows l.width (record { column = l.left; row = l.top; width = l.count; height = l.height }) l.y l.initial.map l.map

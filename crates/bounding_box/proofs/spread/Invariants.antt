@@ -1,14 +1,7 @@
 -- `spread` goes from the last row of the box to its first: the invariant is `SpreadRows` from the row reached on.
-use mathlib.Core.Path.{◌≡◌}
-use Prim.Native.Nat.{◌≤◌}
-use lib.ListN.{length}
-use Rattle.refusal.specs.Refusals.{largest_side}
 use Rattle.bounding_box.specs.Boxes.{SpreadRows}
 use Rattle.bounding_box.proofs.spread.Given as goal
 
 abbrev pub invariant-loop-y : goal.invariant-loop-y
-invariant-loop-y l = (l.y ≤ l.rows)
-    × (length l.line ≡ largest_side) × SpreadRows l.width (record { column = l.left; row = l.top; width = l.count; height = l.rows }) l.y l.initial.map l.map
-
-abbrev pub decreases-loop-y : goal.decreases-loop-y
-decreases-loop-y l = l.y
+invariant-loop-y l =
+    SpreadRows l.width (record { column = l.left; row = l.top; width = l.count; height = l.rows }) l.y l.initial.map l.map

@@ -4,33 +4,25 @@ use Rattle.drawing.proofs.Files.{mapped-on, mapped-self, level-first, reach-marg
 use Rattle.drawing.proofs.Boxes.{part-plate, part-filterable, filtered-part}
 use Rattle.drawing.proofs.draw_reaches.Goals as goal
 
--- that has been placed last.
-
 pub loop-reach-init : goal.loop-reach-init
-loop-reach-init c = (
-  omega arith,
-  mapped-self _ _ _ _ (level-first _ _ _ (placeable-fits _ _ c.requires.0) _ _ _ c.requires.2 _ _ c.requires.3 c.place_range.ensures),
-)
+loop-reach-init c = mapped-self _ _ _ _ (level-first _ _ _ (placeable-fits _ _ c.requires.0) _ _ _ c.requires.2 _ _ c.requires.3 c.place_range.ensures)
 
 pub filter_map-requires : goal.filter_map-requires
 filter_map-requires c =
     let inv = c.loop-reach.invariant in
     part-filterable _ _ _ _ c.part_of-part.ensures (part-plate _ _ c.requires.0)
-    (omega (arith, c.requires.1, c.place_range.ensures.same, inv.1.same))
-    (omega (arith, inv.0, c.requires.2.small))
-    (reach-margin _ _ _ (placeable-fits _ _ c.requires.0) _ _ (omega (arith, c.loop-reach-test.true)) _ _ inv.1)
+    (omega (arith, c.requires.1, c.place_range.ensures.same, inv.same))
+    (omega (arith, c.loop-reach.auto.reach, c.requires.2.small))
+    (reach-margin _ _ _ (placeable-fits _ _ c.requires.0) _ _ (omega (arith, c.loop-reach-test.true)) _ _ inv)
 
 pub loop-reach-preserved : goal.loop-reach-preserved
 loop-reach-preserved c =
-    let inv = c.loop-reach.invariant in (
-      omega (arith, inv.0),
-      level-next _ _ _ (placeable-fits _ _ c.requires.0) _ _ _ c.requires.2 _ _ (omega (arith, c.loop-reach-test.true)) _ _ _ _ inv.1
-          (filtered-part _ _ _ _ c.part_of-part.ensures c.filter_map.ensures) c.place_range-in-loop-reach.ensures,
-    )
+    level-next _ _ _ (placeable-fits _ _ c.requires.0) _ _ _ c.requires.2 _ _ (omega (arith, c.loop-reach-test.true)) _ _ _ _ c.loop-reach.invariant
+    (filtered-part _ _ _ _ c.part_of-part.ensures c.filter_map.ensures) c.place_range-in-loop-reach.ensures
 
 pub returns : goal.returns
 returns c =
     level-last _ _ _ (placeable-fits _ _ c.requires.0) _ c.loop-reach-test.false _ _
     (mapped-on _ _ _ _ _ _
     (level-first _ _ _ (placeable-fits _ _ c.requires.0) _ _ _ c.requires.2 _ _ c.requires.3 c.place_range.ensures)
-    c.loop-reach.invariant.1)
+    c.loop-reach.invariant)

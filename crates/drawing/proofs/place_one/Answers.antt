@@ -16,4 +16,4 @@ pub returns-then-q-reach : goal.returns-then-q-reach
 returns-then-q-reach c =
     raised-one-told _ _ _ _ _ _ _ c.plunge_in-q.ensures c.if-q-reach.true
     (omega (arith, c.requires.2, centre-told _ _ c.requires.0 _ c.requires.1 _ c.plunge_in-q.ensures))
-    c.higher.ensures
+    c.max.ensures

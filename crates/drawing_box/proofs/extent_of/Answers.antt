@@ -1,5 +1,5 @@
 use native.Mathlib.Omega.{arith}
-use Rattle.drawing_box.proofs.Boxed.{extended-more, extended-end, extended-whole}
+use Rattle.drawing_box.proofs.Boxed.{extended-more, extended-whole}
 use Rattle.drawing_box.proofs.extent_of.Goals as goal
 
 pub returns-then-is_wide : goal.returns-then-is_wide
@@ -8,11 +8,5 @@ returns-then-is_wide c =
 
 pub loop-i-preserved : goal.loop-i-preserved
 loop-i-preserved c =
-    let inv = c.loop-i.invariant in (
-      omega (arith, inv.0),
-      extended-more _ _ _ _ _ _ _ _ (omega (arith, c.loop-i-test.true)) c.requires.1 inv.0 inv.1
-          c.plunge_at.ensures c.widened-extent.ensures,
-    )
-
-pub returns : goal.returns
-returns c = extended-end _ _ _ _ _ c.loop-i-test.false c.loop-i.invariant.1
+    extended-more _ _ _ _ _ _ _ _ (omega (arith, c.loop-i-test.true)) c.requires.1 c.loop-i.auto.i c.loop-i.invariant
+    c.plunge_at.ensures c.widened-extent.ensures

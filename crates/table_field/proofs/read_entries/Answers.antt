@@ -9,14 +9,12 @@ use Rattle.table_field.proofs.read_entries.Goals as goal
 pub returns : goal.returns
 returns c =
     let given = c.args in
-    let e : c.loop-i.i ≡ table_entries = omega (arith, c.loop-i.invariant.0, c.loop-i-test.false) in
-    read_all given.field.now given.entries.now c.loop-i.entries c.requires.1 (rw e at c.loop-i.invariant.1)
+    let e : c.loop-i.i ≡ table_entries = omega (arith, c.loop-i.auto.i-end, c.loop-i-test.false) in
+    read_all given.field.now given.entries.now c.loop-i.entries c.requires.1 (rw e at c.loop-i.invariant)
 
 pub loop-i-preserved : goal.loop-i-preserved
 loop-i-preserved c =
-    let given = c.args in (
-      omega (arith, c.loop-i-test.true),
-      read_more given.field.now given.entries.now c.loop-i.i c.of_bytes.result c.loop-i.entries
-          (omega (arith, c.loop-i-test.true, c.requires.1)) c.loop-i.invariant.1
-          (c.of_bytes.ensures ∙ ap (λ (p : ℕ). pair_at given.field.now p (p + 1)) c.entry_place-at.ensures),
-    )
+    let given = c.args in
+    read_more given.field.now given.entries.now c.loop-i.i c.of_bytes.result c.loop-i.entries
+    (omega (arith, c.loop-i-test.true, c.requires.1)) c.loop-i.invariant
+    (c.of_bytes.ensures ∙ ap (λ (p : ℕ). pair_at given.field.now p (p + 1)) c.entry_place-at.ensures)
