@@ -45,15 +45,13 @@ fn cross_run(
     ensures { CrossedRun from width count above.now mid.now below.old below.new
         map.old map.new }
 {
-    let mut i = 0;
-    while i < count {
+    for i in 0..count {
         let under = map[from + width + i];
         map[from + i] = window::window_max(
             Kind::Diamond,
             cross_window(above, mid, MARGIN + i, under),
         );
         below[MARGIN + i] = under;
-        i += 1;
     }
 }
 
@@ -84,29 +82,21 @@ fn cross_row(
 }
 
 // Each row between the edges, from the first on: that one and the row above it have zeros, as the arrays do at the start.
-// Three rows a turn, as in `row_filter::filter_rows`.
+// The arrays change roles from row to row, as in `row_filter::filter_rows`.
 pub fn cross_rows(head: Head, edge: usize, map: &mut [u8])
     requires { Filterable head edge map.old × Between head edge × (1 ≤ edge) × (head.kind ≡ Diamond) }
     ensures { Mapped head (λ c. leaf Highest head.kind (window_of head map.old c))
         map.old map.new }
 {
     let height = head.height as usize;
-    let mut above = [0u8; ROW_PLACES];
-    let mut mid = [0u8; ROW_PLACES];
-    let mut below = [0u8; ROW_PLACES];
-    let mut y = edge;
-    while y + edge < height {
-        cross_row(head, edge, y, &above, &mid, &mut below, map);
-        y += 1;
-        if height <= y + edge {
-            return;
-        }
-        cross_row(head, edge, y, &mid, &below, &mut above, map);
-        y += 1;
-        if height <= y + edge {
-            return;
-        }
-        cross_row(head, edge, y, &below, &above, &mut mid, map);
-        y += 1;
+    let mut first = [0u8; ROW_PLACES];
+    let mut second = [0u8; ROW_PLACES];
+    let mut third = [0u8; ROW_PLACES];
+    let mut above = &mut first;
+    let mut mid = &mut second;
+    let mut below = &mut third;
+    for y in edge..height - edge {
+        cross_row(head, edge, y, above, mid, below, map);
+        (above, mid, below) = (mid, below, above);
     }
 }

@@ -17,7 +17,7 @@ fn highest_three(map: &[u8], n: usize) -> u8
     requires { (1 ≤ n) × (n + 1 < length map.now) }
     ensures { result ≡ highest_three map.now n }
 {
-    window::higher(window::higher(map[n - 1], map[n + 1]), map[n])
+    map[n - 1].max(map[n + 1]).max(map[n])
 }
 
 // A stretch of a row: the highest of the threes above it, in it and below it. Those above it and in it stand in arrays; those below it
@@ -33,12 +33,10 @@ fn square_run(
     requires { Squarable from width count above.old map.old }
     ensures { SquaredRun from width count above.old mid.now above.new map.old map.new }
 {
-    let mut i = 0;
-    while i < count {
+    for i in 0..count {
         let three = highest_three(map, from + width + i);
-        map[from + i] = window::higher(window::higher(above[i], mid[i]), three);
+        map[from + i] = above[i].max(mid[i]).max(three);
         above[i] = three;
-        i += 1;
     }
 }
 
@@ -60,23 +58,19 @@ fn square_row(
 }
 
 // Each row between the edges, from the first on: that one and the row above it have zeros, as the arrays do at the start.
-// Two rows a turn, so that the arrays change roles.
+// The arrays change roles from row to row.
 pub fn square_rows(head: Head, edge: usize, map: &mut [u8])
     requires { Filterable head edge map.old × Between head edge × (1 ≤ edge) × (head.kind ≡ Square) }
     ensures { Mapped head (λ c. leaf Highest head.kind (window_of head map.old c))
         map.old map.new }
 {
     let height = head.height as usize;
-    let mut above = [0u8; ROW_PLACES];
-    let mut mid = [0u8; ROW_PLACES];
-    let mut y = edge;
-    while y + edge < height {
-        square_row(head, edge, y, &mut above, &mid, map);
-        y += 1;
-        if height <= y + edge {
-            return;
-        }
-        square_row(head, edge, y, &mut mid, &above, map);
-        y += 1;
+    let mut first = [0u8; ROW_PLACES];
+    let mut second = [0u8; ROW_PLACES];
+    let mut above = &mut first;
+    let mut mid = &mut second;
+    for y in edge..height - edge {
+        square_row(head, edge, y, above, mid, map);
+        (above, mid) = (mid, above);
     }
 }
