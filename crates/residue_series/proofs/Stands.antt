@@ -166,9 +166,6 @@ tops-more n top r m h e =
     go i l (yes g) = let k : i ≡ n = omega arith in rw k (omega arith)
     go i l (no g) = omega (arith, h.over i (omega arith))
 
-pub tops-end : (i n r : ℕ) (m : List ℕ) → i ≤ n → n ≤ i → Tops i m r → Tops n m r
-tops-end i n r m a b h = let k : i ≡ n = omega arith in subst (λ (j : ℕ). Tops j m r) k h
-
 pub started : (p : Head) (limit : ℕ) (m b b' : List ℕ) (v here : ℕ) → Startable p limit m b → Stepped p m b b' v → Tops (area p) b' here
     → Started p limit m b b' (record { limit = limit; number = 1; here = here; place = 0; top = 0; more = true })
 started p limit m b b' v here s e top =
