@@ -58,19 +58,24 @@ fn square_row(
 }
 
 // Each row between the edges, from the first on: that one and the row above it have zeros, as the arrays do at the start.
-// The arrays change roles from row to row.
+// Two rows a turn, so that the arrays change roles.
 pub fn square_rows(head: Head, edge: usize, map: &mut [u8])
     requires { Filterable head edge map.old × Between head edge × (1 ≤ edge) × (head.kind ≡ Square) }
     ensures { Mapped head (λ c. leaf Highest head.kind (window_of head map.old c))
         map.old map.new }
 {
     let height = head.height as usize;
-    let mut first = [0u8; ROW_PLACES];
-    let mut second = [0u8; ROW_PLACES];
-    let mut above = &mut first;
-    let mut mid = &mut second;
-    for y in edge..height - edge {
-        square_row(head, edge, y, above, mid, map);
-        (above, mid) = (mid, above);
+    let mut above = [0u8; ROW_PLACES];
+    let mut mid = [0u8; ROW_PLACES];
+    // y steps by hand: where references to the arrays change roles instead, LLVM does not vectorise the rows (drawing takes up to 20 times as long)
+    let mut y = edge;
+    while y + edge < height {
+        square_row(head, edge, y, &mut above, &mid, map);
+        y += 1;
+        if height <= y + edge {
+            return;
+        }
+        square_row(head, edge, y, &mut mid, &above, map);
+        y += 1;
     }
 }
