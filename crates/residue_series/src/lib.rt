@@ -113,16 +113,7 @@ fn is_last(head: Head, at: Stand) -> bool
     let width = head.width as usize;
     let cells = (head.height as usize) * width;
     let first = at.number * width;
-    if at.number == at.limit {
-        return true;
-    }
-    if at.here == 0 {
-        return true;
-    }
-    if cells <= first + first {
-        return true;
-    }
-    false
+    at.number == at.limit || at.here == 0 || cells <= first + first
 }
 
 // Where a series stands that has swept up to a place: there, or at the next residue's first place, or at its end.
