@@ -1,24 +1,10 @@
 -- `residue_row` fills one row: whole by windows at the plate's edge, else its two ends and the run between them.
 use native.Mathlib.Omega.{arith}
 use Rattle.buffers.proofs.Rooms.{row_room, inner-interior}
-use Rattle.residue_scores.proofs.Residues.{row-whole, row-parts}
+use Rattle.residue_scores.proofs.Residues.{row-parts}
 use Rattle.residue_scores.proofs.residue_row.Goals as goal
 
 -- the row lies in the erosion before, and past the test it is an inner one
-
-pub returns-then-not-is_inner : goal.returns-then-not-is_inner
-returns-then-not-is_inner c =
-    let given = c.args in
-    row-whole given.head given.score given.prev.now given.cur.now given.out.now given.row _
-    c.residue_cells.ensures
-
-pub overflow_mul-start : goal.overflow_mul-start
-overflow_mul-start c =
-    omega (arith, row_room c.args.head.width c.args.row c.args.head.height _ c.requires.0 c.requires.1.before)
-
-pub overflow_add-start-2 : goal.overflow_add-start-2
-overflow_add-start-2 c =
-    omega (arith, row_room c.args.head.width c.args.row c.args.head.height _ c.requires.0 c.requires.1.before)
 
 pub residue_run-requires : goal.residue_run-requires
 residue_run-requires c =
