@@ -92,7 +92,7 @@ pub fn cross_rows(head: Head, edge: usize, map: &mut [u8])
     let mut above = [0u8; ROW_PLACES];
     let mut mid = [0u8; ROW_PLACES];
     let mut below = [0u8; ROW_PLACES];
-    // y steps by hand: where references to the arrays change roles instead, LLVM does not vectorise the rows (drawing takes up to 20 times as long)
+    // y steps by hand: where references to the arrays change roles instead, drawing takes up to 1.2 times as long
     let mut y = edge;
     while y + edge < height {
         cross_row(head, edge, y, &above, &mid, &mut below, map);
