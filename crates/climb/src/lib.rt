@@ -180,19 +180,10 @@ fn is_turn(climb: Climb) -> bool
 {
     let stand = climb.stand;
     let width = climb.region.head.width as usize;
-    if !stand.more {
-        return false;
-    }
-    if stand.number <= RESIDUES + width / COLUMNS {
-        return false;
-    }
-    if stand.number % 2 == 0 {
-        return false;
-    }
-    if stand.place != (stand.number - 1) * width {
-        return false;
-    }
-    true
+    stand.more
+        && RESIDUES + width / COLUMNS < stand.number
+        && stand.number % 2 == 1
+        && stand.place == (stand.number - 1) * width
 }
 
 // The same climb, on a smaller region where it is worth while.

@@ -1,5 +1,5 @@
 -- Laws of a pass in place for the highest of a diamond: a stretch of a row, row after row.
-use mathlib.Core.Path.{◌≡◌, sym, ap, ap₂, ◌∙◌, subst}
+use mathlib.Core.Path.{◌≡◌, sym, ap, ap₂, ◌∙◌}
 use mathlib.Core.List.{List}
 use Prim.Native.Nat.{ℕ, suc, ◌+◌, ◌*◌, ◌-◌, ◌≤◌, ◌<◌}
 use native.Mathlib.Omega.{arith}
@@ -52,11 +52,6 @@ module _ (from w : ℕ) (above mid below₀ map₀ : List ℕ) where
           let k : i ≡ from + i - from = omega arith in
           let l : from + w + i ≡ from + i + w = omega arith in
           u ∙ ap₂ (λ (j n : ℕ). window_max Diamond (cross_window above mid (margin + j) n)) k (number ∙ ap (λ (j : ℕ). get_or map₀ j 0) l)
-
-  -- at a loop's end the place reached is the place meant
-  pub crossed-end : (i count : ℕ) (below map : List ℕ) → i ≤ count → count ≤ i → CrossedRun from w i above mid below₀ below map₀ map
-      → CrossedRun from w count above mid below₀ below map₀ map
-  crossed-end i count below map g h r = let k : i ≡ count = omega arith in subst (λ (n : ℕ). CrossedRun from w n above mid below₀ below map₀ map) k r
 
 -- ---- row after row
 

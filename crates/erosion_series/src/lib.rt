@@ -30,15 +30,13 @@ fn erode_to(head: Head, relief: &[u8], number: usize, a: &mut [u8], b: &mut [u8]
 {
     let cells = (head.height as usize) * (head.width as usize);
     buffers::copy_run(relief, a, cells);
-    let mut k = 0;
-    while k < number {
+    for k in 0..number {
         let top = step_pair(head, k, a, b);
-        k += 1;
         if top == 0 {
-            return k;
+            return k + 1;
         }
     }
-    k
+    number
 }
 
 // Residue k of the pair's erosions k - 1 and k, joined to a score.
@@ -114,11 +112,9 @@ pub fn score_fill(
     let last = refusal::LARGEST_EROSION as usize;
     buffers::zero_run(out, 0, cells);
     buffers::copy_run(relief, a, cells);
-    let mut k = 0;
-    while k < last {
+    for k in 0..last {
         let top = step_pair(head, k, a, b);
-        k += 1;
-        residue_pair(head, score, k, a, b, out);
+        residue_pair(head, score, k + 1, a, b, out);
         if top == 0 {
             return;
         }

@@ -46,9 +46,6 @@ module _ (kd : Kind) (src : List ℕ) (w from : ℕ) (old : List ℕ) where
       in-turn j a b (yes d) = let i : j ≡ n = omega arith in rw i (omega (arith, get_or-set_same mid n v 0 (omega (arith, e.filled.same))))
       in-turn j a b (no d) = omega (arith, get_or-set_other mid n j v 0 (omega arith), e.top j a (omega arith))
 
-  pub eroded-end : (n to r : ℕ) (new : List ℕ) → n ≤ to → to ≤ n → Eroded kd src w from n old new r → Eroded kd src w from to old new r
-  eroded-end n to r new h l e = let k : n ≡ to = omega arith in subst (λ (j : ℕ). Eroded kd src w from j old new r) k e
-
 -- ---- the lowest among a cell and its neighbours
 
 col-step : (kd : Kind) (s : Move) (c : Cell) → dist kd c (record { col = moved s c.col; row = c.row }) ≤ 1
@@ -198,9 +195,6 @@ module _ (w h : ℕ) (old : List ℕ) where
       at_last : (j : ℕ) → j < y + 1 → Dec (y ≤ j) → get_or (sided w y mid) (j * w + w - 1) 0 ≡ 0
       at_last j d (yes e) = let k : j ≡ y = omega arith in rw k (get_or-set_same (set mid (y * w) 0) (y * w + w - 1) 0 0 two)
       at_last j d (no e) = kept (j * w + w - 1) (s.last j (omega arith))
-
-  pub sides-end : (y : ℕ) (new : List ℕ) → y ≤ h → h ≤ y → SidesZeroed w h y old new → SidesZeroed w h h old new
-  sides-end y new a b s = let k : y ≡ h = omega arith in subst (λ (j : ℕ). SidesZeroed w h j old new) k s
 
 -- ---- the first erosion, all rows in one run
 

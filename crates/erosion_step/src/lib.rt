@@ -14,12 +14,10 @@ fn erode_run(kind: Kind, src: &[u8], dst: &mut [u8], width: usize, from: usize, 
     ensures { Eroded kind src.now width from to dst.old dst.new result }
 {
     let mut top = 0u8;
-    let mut n = from;
-    while n < to {
+    for n in from..to {
         let v = window::window_min(kind, window::window_in(src, width, n));
         dst[n] = v;
-        top = window::higher(top, v);
-        n += 1;
+        top = top.max(v);
     }
     top
 }
@@ -29,11 +27,9 @@ fn zero_columns(width: usize, height: usize, dst: &mut [u8])
     requires { (1 ≤ width) × (height * width ≤ length dst.old) }
     ensures { SidesZeroed width height height dst.old dst.new }
 {
-    let mut y = 0;
-    while y < height {
+    for y in 0..height {
         dst[y * width] = 0;
         dst[y * width + width - 1] = 0;
-        y += 1;
     }
 }
 
@@ -61,10 +57,8 @@ fn erode_first(head: Head, src: &[u8], dst: &mut [u8]) -> u8
 {
     let width = head.width as usize;
     let height = head.height as usize;
-    if width > 2 {
-        if height > 2 {
-            return erode_inside(head, src, dst);
-        }
+    if width > 2 && height > 2 {
+        return erode_inside(head, src, dst);
     }
     buffers::zero_run(dst, 0, height * width);
     0

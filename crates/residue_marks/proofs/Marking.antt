@@ -1,5 +1,5 @@
 -- Laws of marks: how many there are, stretches without one, and the places that are noted.
-use mathlib.Core.Path.{◌≡◌, refl, sym, ap, ◌∙◌, subst}
+use mathlib.Core.Path.{◌≡◌, refl, sym, ap, ◌∙◌}
 use mathlib.Core.Bool.{Bool, true, false, cond}
 use mathlib.Core.List.{List, [], ◌∷◌, ◌++◌, append_assoc, append-nil}
 use Prim.Native.Nat.{ℕ, zero, suc, ◌+◌, ◌-◌, ◌≤◌, ◌<◌}
@@ -47,9 +47,6 @@ module _ (marks : List ℕ) (from : ℕ) where
   block_more i all u z =
       let k : from + (i + 1) ≡ from + i + 1 = omega arith in
       let o = or-none all (get_or marks (from + i) 0) z in rw k (zeros-more marks from (from + i) (u o.0) o.1)
-
-  pub block-end : (i n all : ℕ) → i ≤ n → n ≤ i → (all ≡ 0 → ZeroRun marks from (from + i)) → all ≡ 0 → ZeroRun marks from (from + n)
-  block-end i n all a b u z = let k : i ≡ n = omega arith in subst (λ (j : ℕ). ZeroRun marks from (from + j)) k (u z)
 
 -- ---- marked places noted
 

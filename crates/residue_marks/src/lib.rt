@@ -34,10 +34,8 @@ fn count_run(marks: &[u8; MARK_PLACES], from: usize, to: usize) -> u8
     ensures { result + tally marks.now from ≡ tally marks.now to }
 {
     let mut count = 0u8;
-    let mut i = from;
-    while i < to {
+    for i in from..to {
         count += count_of(marks[i]);
-        i += 1;
     }
     count
 }
@@ -50,7 +48,7 @@ pub fn count_marks(marks: &[u8; MARK_PLACES], number: usize) -> usize
     let mut count = 0;
     let mut i = 0;
     while i < number {
-        let end = numbers::smaller(number, i + COUNTED);
+        let end = number.min(i + COUNTED);
         count += count_run(marks, i, end) as usize;
         i = end;
     }
@@ -63,10 +61,8 @@ fn block_marks(marks: &[u8; MARK_PLACES], from: usize) -> u8
     ensures { result ≡ 0 → ZeroRun marks.now from (from + block) }
 {
     let mut all = 0u8;
-    let mut i = 0;
-    while i < BLOCK {
-        all = all | marks[from + i];
-        i += 1;
+    for i in 0..BLOCK {
+        all |= marks[from + i];
     }
     all
 }
@@ -83,11 +79,9 @@ fn note_places(
     ensures { Noted marks.now from to count noted.old result noted.new }
 {
     let mut n = count;
-    let mut i = from;
-    while i < to {
+    for i in from..to {
         noted[n] = i as u16;
         n += count_of(marks[i]) as usize;
-        i += 1;
     }
     n
 }
@@ -114,10 +108,8 @@ pub fn note_marks(marks: &[u8; MARK_PLACES], number: usize, noted: &mut [u16; MA
     ensures { Noted marks.now 0 number 0 noted.old result noted.new }
 {
     let mut count = 0;
-    let mut i = 0;
-    while BLOCK <= number - i {
-        count = note_block(marks, i, noted, count);
-        i += BLOCK;
+    for i in 0..number / BLOCK {
+        count = note_block(marks, BLOCK * i, noted, count);
     }
-    note_places(marks, i, number, noted, count)
+    note_places(marks, BLOCK * (number / BLOCK), number, noted, count)
 }

@@ -39,11 +39,6 @@ module _ (p : Head) (s : Score) (prev cur old : List ℕ) (row from : ℕ) where
       (filled_more (scored_at p s prev cur old row) (row * p.width + from) n v old mid f (omega arith) b
       (e ∙ ap₂ (joined_score s) (f.over n (omega arith)) (ap (λ (i : ℕ). get_or prev n 0 - highest_near p.kind (at p cur) (cell i row)) (sym z))))
 
-  pub cells-end : (x to : ℕ) (new : List ℕ) → x ≤ to → to ≤ x → Filled (scored_at p s prev cur old row) (row * p.width + from) (row * p.width + x) old new
-      → Filled (scored_at p s prev cur old row) (row * p.width + from) (row * p.width + to) old new
-  cells-end x to new a b f = let k : row * p.width + x ≡ row * p.width + to = omega arith in
-      subst (λ (j : ℕ). Filled (scored_at p s prev cur old row) (row * p.width + from) j old new) k f
-
 -- a row's three parts: its first cell, the run inside, its last cell
 module _ (p : Head) (s : Score) (prev cur old : List ℕ) (row : ℕ) where
   abbrev here : ℕ
@@ -186,7 +181,3 @@ module _ (p : Head) (s : Score) (prev cur old : List ℕ) where
             f.inside (j * p.width + i) (omega (arith, mul-le-mul_right p.width e)) (omega (arith, mul-le-mul_right p.width r, suc-mul j p.width))
             ∙ ap (λ (v : ℕ). joined_score s (get_or old (j * p.width + i) 0) (get_or prev (j * p.width + i) 0 - v))
             (interior-max-near p cur i j l (omega arith) (omega arith) (omega arith))
-
-pub scored-end : (p : Head) (s : Score) (prev cur : List ℕ) (y to : ℕ) (old new : List ℕ) → y ≤ to → to ≤ y → Scored p s prev cur 0 y old new
-    → Scored p s prev cur 0 to old new
-scored-end p s prev cur y to old new a b e = let k : y ≡ to = omega arith in subst (λ (j : ℕ). Scored p s prev cur 0 j old new) k e

@@ -22,8 +22,8 @@ fn join(score: Score, a: u8, residue: u8) -> u8
     ensures { result ≡ joined_score score a residue }
 {
     match score {
-        Score::Largest => window::higher(a, residue),
-        Score::Sum => if residue <= 255 - a { a + residue } else { 255 },
+        Score::Largest => a.max(residue),
+        Score::Sum => a.saturating_add(residue),
     }
 }
 
@@ -44,14 +44,9 @@ fn residue_run(
         (get_or prev.now n 0 - window_max kind (window_in cur.now width n)))
         from to out.old out.new }
 {
-    let mut n = from;
-    while n < to {
-        let residue = window::less(
-            prev[n],
-            window::window_max(kind, window::window_in(cur, width, n)),
-        );
-        out[n] = join(score, out[n], residue);
-        n += 1;
+    for n in from..to {
+        let highest = window::window_max(kind, window::window_in(cur, width, n));
+        out[n] = join(score, out[n], prev[n].saturating_sub(highest));
     }
 }
 
@@ -72,15 +67,10 @@ fn residue_cells(
 {
     let kind = head.kind;
     let start = (row as usize) * (head.width as usize);
-    let mut x = from;
-    while x < to {
+    for x in from..to {
         let n = start + (x as usize);
-        let residue = window::less(
-            prev[n],
-            window::window_max(kind, window::window_at(head, cur, x, row)),
-        );
-        out[n] = join(score, out[n], residue);
-        x += 1;
+        let highest = window::window_max(kind, window::window_at(head, cur, x, row));
+        out[n] = join(score, out[n], prev[n].saturating_sub(highest));
     }
 }
 
@@ -117,11 +107,8 @@ fn residue_first(head: Head, score: Score, prev: &[u8], cur: &[u8], out: &mut [u
     ensures { Scored head score prev.now cur.now 0 head.height
         out.old out.new }
 {
-    let height = head.height;
-    let mut row = 0;
-    while row < height {
+    for row in 0..head.height {
         residue_row(head, score, prev, cur, out, row);
-        row += 1;
     }
 }
 

@@ -6,6 +6,8 @@ use mathlib.Core.List.{List, [], ◌++◌, append_assoc, append-nil}
 use Prim.Native.Nat.{ℕ, zero, suc, ◌+◌, ◌*◌, ◌-◌, ◌≤◌, ◌<◌, max}
 use native.Mathlib.Omega.{arith}
 use native.Mathlib.Decide.{dec_le}
+use borrow.Author.Tests.{le-leb, lt-leb}
+use lib.Dec.{leb}
 use native.Mathlib.Nat.{suc-mul, zero-mul, mul-le-mul, mul-le-mul_right}
 use lib.Arith.{digits_lt}
 use lib.ListN.{length, get_or}
@@ -62,15 +64,23 @@ module _ (p : Head) (s : Stand) where
   last-bare z = record { ends = λ t m n top a b q. inr (pair-zero p m s.number s.here n top a b q z); goes_on = λ t. absurd (true≢false t) }
 
   module _ (level : Level p s.limit s.number s.place) where
-    pub last-rows : area p ≤ s.number * p.width + s.number * p.width → LastResidue p s true
+    last-rows : area p ≤ s.number * p.width + s.number * p.width → LastResidue p s true
     last-rows h =
         record {
           ends = λ t m n top a b q. inr (erosion-gone p m s.number (rows-gone p.width p.height s.number level.sides.wide h));
           goes_on = λ t. absurd (true≢false t);
         }
 
-    pub not_last : (s.number ≡ s.limit → ⊥) → (s.here ≡ 0 → ⊥) → s.number * p.width + s.number * p.width < area p → LastResidue p s false
+    not_last : (s.number ≡ s.limit → ⊥) → (s.here ≡ 0 → ⊥) → s.number * p.width + s.number * p.width < area p → LastResidue p s false
     not_last e d h = record { ends = λ t. absurd (true≢false (sym t)); goes_on = λ t. (let l = level.last in omega (arith, e), h, d) }
+
+    -- past the other two tests, by the rows that are left
+    pub last-or-not : (s.number ≡ s.limit → ⊥) → (s.here ≡ 0 → ⊥) → LastResidue p s (leb (area p) (s.number * p.width + s.number * p.width))
+    last-or-not e d = go (dec_le (area p) (s.number * p.width + s.number * p.width))
+      where
+        go : Dec (area p ≤ s.number * p.width + s.number * p.width) → LastResidue p s (leb (area p) (s.number * p.width + s.number * p.width))
+        go (yes h) = rw (le-leb _ _ h) (last-rows h)
+        go (no h) = let g : s.number * p.width + s.number * p.width < area p = omega arith in rw (lt-leb _ _ g) (not_last e d g)
 
 -- the products of a place's level are small
 pub level-small : (p : Head) (limit k n : ℕ) → Level p limit k n
@@ -165,9 +175,6 @@ tops-more n top r m h e =
     go : (i : ℕ) → i < n + 1 → Dec (n ≤ i) → get_or m i 0 ≤ r
     go i l (yes g) = let k : i ≡ n = omega arith in rw k (omega arith)
     go i l (no g) = omega (arith, h.over i (omega arith))
-
-pub tops-end : (i n r : ℕ) (m : List ℕ) → i ≤ n → n ≤ i → Tops i m r → Tops n m r
-tops-end i n r m a b h = let k : i ≡ n = omega arith in subst (λ (j : ℕ). Tops j m r) k h
 
 pub started : (p : Head) (limit : ℕ) (m b b' : List ℕ) (v here : ℕ) → Startable p limit m b → Stepped p m b b' v → Tops (area p) b' here
     → Started p limit m b b' (record { limit = limit; number = 1; here = here; place = 0; top = 0; more = true })

@@ -36,10 +36,8 @@ fn highest(map: &[u8], n: usize) -> u8
     ensures { Tops n map.now result }
 {
     let mut top = 0u8;
-    let mut i = 0;
-    while i < n {
-        top = window::higher(top, map[i]);
-        i += 1;
+    for i in 0..n {
+        top = top.max(map[i]);
     }
     top
 }
@@ -74,7 +72,7 @@ fn run_end(head: Head, at: Stand) -> usize
     let cells = (head.height as usize) * width;
     let end = cells - (at.number - 1) * width;
     if place < width {
-        return numbers::smaller(end, width);
+        return end.min(width);
     }
     if cells <= place + width {
         return end;
@@ -85,10 +83,7 @@ fn run_end(head: Head, at: Stand) -> usize
     if cells <= place + width + 1 {
         return place + 1;
     }
-    numbers::smaller(
-        end,
-        numbers::smaller(place + residue_sweep::RUN, cells - width - 1),
-    )
+    end.min(place + residue_sweep::RUN).min(cells - width - 1)
 }
 
 // Sweeps places of the pair's erosions number - 1 and number.
@@ -118,16 +113,7 @@ fn is_last(head: Head, at: Stand) -> bool
     let width = head.width as usize;
     let cells = (head.height as usize) * width;
     let first = at.number * width;
-    if at.number == at.limit {
-        return true;
-    }
-    if at.here == 0 {
-        return true;
-    }
-    if cells <= first + first {
-        return true;
-    }
-    false
+    at.number == at.limit || at.here == 0 || cells <= first + first
 }
 
 // Where a series stands that has swept up to a place: there, or at the next residue's first place, or at its end.
@@ -191,7 +177,7 @@ pub fn next_run(
         number: end - place,
     };
     let swept = sweep_pair(head, number, places, a, b, marks);
-    let next = advance(head, at, end, window::higher(at.top, swept.top));
+    let next = advance(head, at, end, at.top.max(swept.top));
     Run {
         places,
         deepest: swept.deepest,

@@ -76,11 +76,6 @@ module _ (low high : ℕ → ℕ) (start : ℕ) (prev marks : List ℕ) where
           rw k (omega (arith, get_or-set_same prev' (start + i) l 0 (omega (arith, s.next.same))))
       in-turn n c d (no h) = omega (arith, get_or-set_other prev' (start + i) n l 0 (omega arith), s.under n c (omega arith))
 
-  pub sweep-end : (i number deepest top : ℕ) (prev' marks' : List ℕ) → i ≤ number → number ≤ i → Sweep low high start i prev prev' marks marks' deepest top
-      → Sweep low high start number prev prev' marks marks' deepest top
-  sweep-end i number deepest top prev' marks' a b s =
-      let k : i ≡ number = omega arith in subst (λ (j : ℕ). Sweep low high start j prev prev' marks marks' deepest top) k s
-
 -- the same with other numbers that agree
 pub sweep-as : (low high low' high' : ℕ → ℕ) (start number : ℕ) (prev prev' marks marks' : List ℕ) (deepest top : ℕ)
     → Sweep low high start number prev prev' marks marks' deepest top

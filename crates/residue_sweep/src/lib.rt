@@ -42,17 +42,15 @@ fn sweep_run(
     let number = places.number;
     let mut deepest = 0u8;
     let mut top = 0u8;
-    let mut i = 0;
-    while i < number {
+    for i in 0..number {
         let n = start + i;
         let win = window::window_in(cur, width, n);
         let low = window::window_min(kind, win);
         let v = residue_marks::mark(prev[n], window::window_max(kind, win));
         marks[i] = v;
         prev[n] = low;
-        deepest = window::higher(deepest, v);
-        top = window::higher(top, low);
-        i += 1;
+        deepest = deepest.max(v);
+        top = top.max(low);
     }
     Swept { deepest, top }
 }
@@ -73,16 +71,14 @@ fn sweep_edge(
     let start = places.start;
     let number = places.number;
     let mut deepest = 0u8;
-    let mut i = 0;
-    while i < number {
+    for i in 0..number {
         let n = start + i;
         let j = beside + i;
         let win = [[0, 0, 0], [0, 0, 0], [cur[j - 1], cur[j], cur[j + 1]]];
         let v = residue_marks::mark(prev[n], window::window_max(kind, win));
         marks[i] = v;
         prev[n] = 0;
-        deepest = window::higher(deepest, v);
-        i += 1;
+        deepest = deepest.max(v);
     }
     Swept { deepest, top: 0 }
 }
@@ -105,17 +101,15 @@ fn sweep_cells(
     let number = places.number;
     let mut deepest = 0u8;
     let mut top = 0u8;
-    let mut i = 0;
-    while i < number {
+    for i in 0..number {
         let n = start + i;
         let win = window::window_at(head, cur, (n % width) as u16, (n / width) as u16);
         let low = window::window_min(kind, win);
         let v = residue_marks::mark(prev[n], window::window_max(kind, win));
         marks[i] = v;
         prev[n] = low;
-        deepest = window::higher(deepest, v);
-        top = window::higher(top, low);
-        i += 1;
+        deepest = deepest.max(v);
+        top = top.max(low);
     }
     Swept { deepest, top }
 }

@@ -27,17 +27,9 @@ use Rattle.row_arrays.specs.Start.{seed}
 use Rattle.row_arrays.proofs.Rows.{zeros, row-zeros, margins-filled, row_loaded}
 use Rattle.row_filter.specs.declared.Leaf.{Leaf}
 use Rattle.row_filter.specs.declared.Leaf.TheVariants as v
-use Rattle.row_filter.specs.Filter.{window_rows, leaf, row_of, FilteredRow}
+use Rattle.row_filter.specs.Filter.{window_rows, leaf, row_of, Growable, Readable, FilteredRow}
 
 -- ---- rows in arrays
-
--- where a row's stretch between the edges lies
-pub between : (w e y h n : ℕ) → 2 * e < w → y < h → h * w ≤ n → (y * w + e + (w - 2 * e) ≤ n)
-between w e y h n a b c = omega (arith, row_room w y h n b c)
-
--- a row between the edges lies in the map, with the row below it
-pub row-and-below : (w e y h n : ℕ) → 1 ≤ e → 2 * e < w → y + e < h → h * w ≤ n → y * w + e + w + (w - 2 * e) < n
-row-and-below w e y h n a b c d = omega (arith, suc-mul y w, row_room w (y + 1) h n (omega arith) d)
 
 module _ (p : Head) (e : ℕ) where
   abbrev w : ℕ
@@ -45,6 +37,17 @@ module _ (p : Head) (e : ℕ) where
 
   abbrev inner : ℕ
   inner = p.width - 2 * e
+
+  -- a row's stretch between the edges lies in the map
+  pub row-stretch : (m : List ℕ) (k y : ℕ) (row : List ℕ) → Readable p e m k row → y < p.height → y * w + e + inner ≤ length m
+  row-stretch m k y row a h = let some = a.some in omega (arith, row_room w y p.height (length m) h a.long)
+
+  -- with an edge it lies there with the stretch below it
+  pub row-and-below : (m : List ℕ) (y : ℕ) (row : List ℕ) → Growable p e y row m → y * w + e + w + inner < length m
+  row-and-below m y row a =
+      let some = a.edge in
+      let wide = a.columns in
+      omega (arith, suc-mul y w, row_room w (y + 1) p.height (length m) (let here = a.here in omega arith) a.long)
 
   pub row_read : (m : List ℕ) (y : ℕ) (row row' : List ℕ) → Margins inner row → y + e < p.height
       → Filled (λ n. max (seed Numbers (get_or m (y * w + e + (n - margin)) 0)) 0) margin (margin + inner) row row' → Row (row_of p e m y) inner row'

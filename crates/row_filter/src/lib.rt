@@ -73,14 +73,12 @@ fn filter_run(
         (λ n. leaf made kind (window_rows above.now mid.now below.now (margin + (n - from))))
         from (from + count) map.old map.new }
 {
-    let mut n = from;
-    while n < from + count {
+    for n in from..from + count {
         map[n] = leaf_of(
             made,
             kind,
             window_rows(above, mid, below, MARGIN + (n - from)),
         );
-        n += 1;
     }
 }
 
@@ -122,30 +120,22 @@ fn filter_row(
 }
 
 // Each row between the edges, from the first on.
-// Three rows a turn, so that the arrays change roles and no row is copied.
+// The arrays change roles from row to row, and no row is copied.
 pub fn filter_rows(made: Leaf, head: Head, edge: usize, map: &mut [u8])
     requires { Filterable head edge map.old × Between head edge }
     ensures { Mapped head (λ c. leaf made head.kind (window_of head map.old c))
         map.old map.new }
 {
     let height = head.height as usize;
-    let mut above = [0u8; ROW_PLACES];
-    let mut mid = [0u8; ROW_PLACES];
-    let mut below = [0u8; ROW_PLACES];
-    read_row(head, edge, map, edge, &mut mid);
-    let mut y = edge;
-    while y + edge < height {
-        filter_row(made, head, edge, y, &above, &mid, &mut below, map);
-        y += 1;
-        if height <= y + edge {
-            return;
-        }
-        filter_row(made, head, edge, y, &mid, &below, &mut above, map);
-        y += 1;
-        if height <= y + edge {
-            return;
-        }
-        filter_row(made, head, edge, y, &below, &above, &mut mid, map);
-        y += 1;
+    let mut first = [0u8; ROW_PLACES];
+    let mut second = [0u8; ROW_PLACES];
+    let mut third = [0u8; ROW_PLACES];
+    let mut above = &mut first;
+    let mut mid = &mut second;
+    let mut below = &mut third;
+    read_row(head, edge, map, edge, mid);
+    for y in edge..height - edge {
+        filter_row(made, head, edge, y, above, mid, below, map);
+        (above, mid, below) = (mid, below, above);
     }
 }

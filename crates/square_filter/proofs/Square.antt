@@ -1,5 +1,5 @@
 -- Laws of a pass in place for the highest of a square: the highest of nine by threes, a stretch of a row, row after row.
-use mathlib.Core.Path.{◌≡◌, sym, ap, ap₂, ◌∙◌, subst}
+use mathlib.Core.Path.{◌≡◌, sym, ap, ap₂, ◌∙◌}
 use mathlib.Core.List.{List, [], ◌∷◌}
 use Prim.Native.Nat.{ℕ, suc, ◌+◌, ◌*◌, ◌-◌, ◌≤◌, ◌<◌, max}
 use native.Mathlib.Omega.{arith}
@@ -68,11 +68,6 @@ module _ (from w : ℕ) (above₀ mid map₀ : List ℕ) where
           let l : from + w + i ≡ from + i + w = omega arith in
           u ∙ ap₂ max (ap₂ max (r.above-is.over i (omega arith) ∙ ap (λ (j : ℕ). get_or above₀ j 0) k) (ap (λ (j : ℕ). get_or mid j 0) k))
           (below ∙ ap (highest_three map₀) l)
-
-  -- at a loop's end the place reached is the place meant
-  pub squared-end : (i count : ℕ) (above map : List ℕ) → i ≤ count → count ≤ i → SquaredRun from w i above₀ mid above map₀ map
-      → SquaredRun from w count above₀ mid above map₀ map
-  squared-end i count above map g h r = let k : i ≡ count = omega arith in subst (λ (n : ℕ). SquaredRun from w n above₀ mid above map₀ map) k r
 
 -- ---- row after row
 

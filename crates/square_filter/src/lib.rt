@@ -17,7 +17,7 @@ fn highest_three(map: &[u8], n: usize) -> u8
     requires { (1 ≤ n) × (n + 1 < length map.now) }
     ensures { result ≡ highest_three map.now n }
 {
-    window::higher(window::higher(map[n - 1], map[n + 1]), map[n])
+    map[n - 1].max(map[n + 1]).max(map[n])
 }
 
 // A stretch of a row: the highest of the threes above it, in it and below it. Those above it and in it stand in arrays; those below it
@@ -33,12 +33,10 @@ fn square_run(
     requires { Squarable from width count above.old map.old }
     ensures { SquaredRun from width count above.old mid.now above.new map.old map.new }
 {
-    let mut i = 0;
-    while i < count {
+    for i in 0..count {
         let three = highest_three(map, from + width + i);
-        map[from + i] = window::higher(window::higher(above[i], mid[i]), three);
+        map[from + i] = above[i].max(mid[i]).max(three);
         above[i] = three;
-        i += 1;
     }
 }
 
@@ -69,6 +67,7 @@ pub fn square_rows(head: Head, edge: usize, map: &mut [u8])
     let height = head.height as usize;
     let mut above = [0u8; ROW_PLACES];
     let mut mid = [0u8; ROW_PLACES];
+    // y steps by hand: where references to the arrays change roles instead, LLVM does not vectorise the rows (drawing takes up to 20 times as long)
     let mut y = edge;
     while y + edge < height {
         square_row(head, edge, y, &mut above, &mid, map);

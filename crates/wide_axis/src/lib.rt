@@ -17,7 +17,7 @@ ghost use Rattle.wide_axis.specs.Kept.{kept_map, WideReadable, KeptRow};
 
 use geometry::{Head, Kind};
 use row_arrays::{MARGIN, ROW_PLACES};
-use wide_rows::{higher, highest_beside};
+use wide_rows::highest_beside;
 
 // The highest among the neighbours of place n of the middle row.
 fn highest_around(
@@ -30,12 +30,9 @@ fn highest_around(
     requires { (1 ≤ n) × (n + 1 < row_places) }
     ensures { result ≡ highest 0 (around kind (window_rows above.now mid.now below.now n)) }
 {
-    let along = higher(mid[n - 1], mid[n + 1]);
-    let beside = higher(
-        highest_beside(kind, above, n),
-        highest_beside(kind, below, n),
-    );
-    higher(along, beside)
+    let along = mid[n - 1].max(mid[n + 1]);
+    let beside = highest_beside(kind, above, n).max(highest_beside(kind, below, n));
+    along.max(beside)
 }
 
 // The number at place n of the middle row where no neighbour's is larger, else 0.
@@ -72,12 +69,10 @@ fn keep_run(
         (λ n. kept kind (window_rows above.now mid.now below.now (margin + (n - from))))
         from (from + width) out.old out.new }
 {
-    let mut n = from;
-    while n < from + width {
+    for n in from..from + width {
         let number = keep(kind, above, mid, below, MARGIN + (n - from));
         out[2 * n] = numbers::first_byte(number);
         out[2 * n + 1] = numbers::second_byte(number);
-        n += 1;
     }
 }
 
@@ -113,31 +108,23 @@ fn keep_row(
 }
 
 // Each number where no neighbour's is larger, 0 elsewhere; bytes past the plate's stay.
-// Three rows a turn, so that the arrays change roles and no row is copied.
+// The arrays change roles from row to row, and no row is copied.
 fn keep_axis(head: Head, out: &mut [u8])
     requires { Held head × (2 * area head ≤ length out.old) }
     ensures { out.new ≡ wide_map (kept_map head (wide_numbers out.old))
         ++ drop (length (wide_map (kept_map head (wide_numbers out.old)))) out.old }
 {
     let height = head.height as usize;
-    let mut above = [0u16; ROW_PLACES];
-    let mut mid = [0u16; ROW_PLACES];
-    let mut below = [0u16; ROW_PLACES];
-    read_row(head, 0, out, &mut mid);
-    let mut y = 0;
-    while y < height {
-        keep_row(head, y, &above, &mid, &mut below, out);
-        y += 1;
-        if height <= y {
-            return;
-        }
-        keep_row(head, y, &mid, &below, &mut above, out);
-        y += 1;
-        if height <= y {
-            return;
-        }
-        keep_row(head, y, &below, &above, &mut mid, out);
-        y += 1;
+    let mut first = [0u16; ROW_PLACES];
+    let mut second = [0u16; ROW_PLACES];
+    let mut third = [0u16; ROW_PLACES];
+    let mut above = &mut first;
+    let mut mid = &mut second;
+    let mut below = &mut third;
+    read_row(head, 0, out, mid);
+    for y in 0..height {
+        keep_row(head, y, above, mid, below, out);
+        (above, mid, below) = (mid, below, above);
     }
 }
 

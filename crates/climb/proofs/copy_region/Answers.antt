@@ -1,12 +1,8 @@
 -- `copy_region` copies the box outside of which the region is bare: `parts` says that this is its part.
 use mathlib.Core.Path.{sym, subst}
 use Rattle.climb.specs.Climbs.{RegionPart}
-use Rattle.climb.proofs.Beginnings.{parts, part-copyable}
+use Rattle.climb.proofs.Beginnings.{parts}
 use Rattle.climb.proofs.copy_region.Goals as goal
-
-pub copy_box-requires : goal.copy_box-requires
-copy_box-requires c =
-    part-copyable _ _ _ _ c.requires.0.sides c.bounds_of-found.ensures.0 c.requires.1 c.requires.2
 
 pub returns : goal.returns
 returns c =

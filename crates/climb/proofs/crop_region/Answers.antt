@@ -1,13 +1,8 @@
 -- `crop_region` crops to the box outside of which the region is bare: `parts` says that this is its part.
 use mathlib.Core.Path.{sym, subst}
-use Rattle.bounding_box.proofs.Boxing.{within-croppable}
 use Rattle.climb.specs.Climbs.{RegionPart}
 use Rattle.climb.proofs.Beginnings.{parts}
 use Rattle.climb.proofs.crop_region.Goals as goal
-
-pub crop-requires : goal.crop-requires
-crop-requires c =
-    within-croppable _ _ _ c.requires.0.sides c.bounds_of-found.ensures.0 c.requires.1
 
 pub returns : goal.returns
 returns c =

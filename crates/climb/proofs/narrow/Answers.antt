@@ -1,9 +1,6 @@
 -- `narrow` by cases: the same climb, or one that begins anew on the part of its region that is not bare.
-use Rattle.climb.proofs.Climbs.{climbing-turnable, turn-asks, turn_step, turn-less}
+use Rattle.climb.proofs.Climbs.{turn-asks, turn_step, turn-less}
 use Rattle.climb.proofs.narrow.Goals as goal
-
-pub is_turn-requires : goal.is_turn-requires
-is_turn-requires c = climbing-turnable _ _ _ _ _ _ c.requires.climbs
 
 pub settle-requires : goal.settle-requires
 settle-requires c =

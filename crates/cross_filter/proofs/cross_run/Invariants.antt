@@ -1,10 +1,6 @@
 -- `cross_run` makes the highest of each window and leaves the row below in its array: the invariant is `CrossedRun` up to the place reached.
-use Prim.Native.Nat.{◌-◌, ◌≤◌}
 use Rattle.cross_filter.specs.Cross.{CrossedRun}
 use Rattle.cross_filter.proofs.cross_run.Given as goal
 
 abbrev pub invariant-loop-i : goal.invariant-loop-i
-invariant-loop-i l = (l.i ≤ l.count) × CrossedRun l.from l.width l.i l.above l.mid l.initial.below l.below l.initial.map l.map
-
-abbrev pub decreases-loop-i : goal.decreases-loop-i
-decreases-loop-i l = l.count - l.i
+invariant-loop-i l = CrossedRun l.from l.width l.i l.above l.mid l.initial.below l.below l.initial.map l.map

@@ -1,32 +1,6 @@
 -- `erode_inside` makes one run of all inner rows, and zeroes what lies before it, after it, and at the sides: `first-all` puts the four together.
-use Prim.Native.Nat.{◌*◌}
-use native.Mathlib.Omega.{arith}
-use Rattle.erosion_step.proofs.Steps.{FirstRoom, first-room, first-interior, first-all}
+use Rattle.erosion_step.proofs.Steps.{first-all}
 use Rattle.erosion_step.proofs.erode_inside.Goals as goal
-
--- where the run lies among the plate's bytes
-
-pub overflow_sub-to : goal.overflow_sub-to
-overflow_sub-to c =
-    let room : FirstRoom c.args.head.width (c.args.head.height * c.args.head.width) = first-room c.args.head.width c.args.head.height c.requires.wide c.requires.high in
-    omega (arith, room)
-
-pub overflow_sub-to-2 : goal.overflow_sub-to-2
-overflow_sub-to-2 c =
-    let room : FirstRoom c.args.head.width (c.args.head.height * c.args.head.width) = first-room c.args.head.width c.args.head.height c.requires.wide c.requires.high in
-    omega (arith, room)
-
-pub zero_run-requires : goal.zero_run-requires
-zero_run-requires c =
-    let room : FirstRoom c.args.head.width (c.args.head.height * c.args.head.width) = first-room c.args.head.width c.args.head.height c.requires.wide c.requires.high in
-    (omega arith, omega (arith, room, c.requires.room))
-
-pub erode_run-top-requires : goal.erode_run-top-requires
-erode_run-top-requires c =
-    let given = c.args in (
-      first-interior given.head.width given.head.height given.src.now c.requires.wide c.requires.high c.requires.read,
-      omega (arith, c.requires.room, c.zero_run.ensures.same),
-    )
 
 pub returns : goal.returns
 returns c =

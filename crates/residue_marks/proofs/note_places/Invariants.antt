@@ -1,10 +1,6 @@
 -- `note_places` writes each place behind those noted, and counts it where it is marked: the invariant is `Noted` up to the place reached.
-use Prim.Native.Nat.{◌-◌, ◌≤◌}
 use Rattle.residue_marks.specs.Marks.{Noted}
 use Rattle.residue_marks.proofs.note_places.Given as goal
 
 abbrev pub invariant-loop-i : goal.invariant-loop-i
-invariant-loop-i l = (l.from ≤ l.i) × (l.i ≤ l.to) × Noted l.marks l.from l.i l.count l.initial.noted l.n l.noted
-
-abbrev pub decreases-loop-i : goal.decreases-loop-i
-decreases-loop-i l = l.to - l.i
+invariant-loop-i l = Noted l.marks l.from l.i l.count l.initial.noted l.n l.noted

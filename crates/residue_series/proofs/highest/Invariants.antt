@@ -1,10 +1,6 @@
 -- `highest` goes over the map: the invariant is `Tops` up to the place reached.
-use Prim.Native.Nat.{◌-◌, ◌≤◌}
 use Rattle.residue_series.specs.Stands.{Tops}
 use Rattle.residue_series.proofs.highest.Given as goal
 
 abbrev pub invariant-loop-i : goal.invariant-loop-i
-invariant-loop-i l = (l.i ≤ l.n) × Tops l.i l.map l.top
-
-abbrev pub decreases-loop-i : goal.decreases-loop-i
-decreases-loop-i l = l.n - l.i
+invariant-loop-i l = Tops l.i l.map l.top

@@ -17,5 +17,5 @@ sweep_pair-swept-requires c =
 pub returns : goal.returns
 returns c =
     taken _ _ _ _ _ _ _ _ _ _ _ _ c.requires.stands.level c.run_end-end.ensures
-    c.sweep_pair-swept.ensures c.higher.ensures c.advance-next.ensures c.requires.relief
+    c.sweep_pair-swept.ensures c.max.ensures c.advance-next.ensures c.requires.relief
     c.requires.stands c.requires.size

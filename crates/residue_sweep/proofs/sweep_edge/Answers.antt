@@ -1,4 +1,4 @@
-use Rattle.residue_sweep.proofs.Sweeping.{sweep-none, sweep-more, sweep-end}
+use Rattle.residue_sweep.proofs.Sweeping.{sweep-none, sweep-more}
 use Rattle.residue_marks.specs.Marks.{mark_of}
 use Rattle.residue_sweep.specs.Sweeps.{beside_window}
 use Rattle.window.specs.Windows.{window_max}
@@ -9,34 +9,14 @@ use mathlib.Core.Path.{◌≡◌, refl, ap, ◌∙◌}
 use Rattle.residue_sweep.proofs.sweep_edge.Goals as goal
 
 pub loop-i-init : goal.loop-i-init
-loop-i-init c = (omega arith, sweep-none _ _ _ _ _)
-
-pub bounds-prev-n : goal.bounds-prev-n
-bounds-prev-n c =
-    omega (arith, c.loop-i.invariant.1.next.same)
-
-pub bounds-marks-i : goal.bounds-marks-i
-bounds-marks-i c =
-    omega (arith, c.loop-i.invariant.1.marked.same)
-
-pub bounds-prev-n-in-loop-i : goal.bounds-prev-n-in-loop-i
-bounds-prev-n-in-loop-i c =
-    omega (arith, c.loop-i.invariant.1.next.same)
+loop-i-init c = sweep-none _ _ _ _ _
 
 pub loop-i-preserved : goal.loop-i-preserved
 loop-i-preserved c =
     let given = c.args in
     let e : given.beside + c.loop-i.i ≡ given.beside +
-    (given.places.start + c.loop-i.i - given.places.start) = omega arith in (
-      omega arith,
-      sweep-more _ _ _ _ _ _ _ _ _ _ _ _ _ _ c.loop-i.invariant.1 (omega arith) (omega arith)
-          (c.mark-v.ensures ∙ ap (mark_of (get_or c.loop-i.prev (given.places.start + c.loop-i.i) 0))
-          (c.window_max.ensures ∙ ap (λ (j : ℕ). window_max given.kind (beside_window given.cur.now j))
-          e)) refl c.higher-deepest.ensures refl,
-    )
-
-pub shape_of-prev : goal.shape_of-prev
-shape_of-prev c = c.loop-i.invariant.1.next.same
-
-pub returns : goal.returns
-returns c = sweep-end _ _ _ _ _ _ _ _ _ _ _ c.loop-i.invariant.0 c.loop-i-test.false c.loop-i.invariant.1
+    (given.places.start + c.loop-i.i - given.places.start) = omega arith in
+    sweep-more _ _ _ _ _ _ _ _ _ _ _ _ _ _ c.loop-i.invariant (omega arith) (omega arith)
+    (c.mark-v.ensures ∙ ap (mark_of (get_or c.loop-i.prev (given.places.start + c.loop-i.i) 0))
+    (c.window_max.ensures ∙ ap (λ (j : ℕ). window_max given.kind (beside_window given.cur.now j))
+    e)) refl c.max-deepest.ensures refl

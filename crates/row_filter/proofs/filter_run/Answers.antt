@@ -1,22 +1,12 @@
 use mathlib.Core.Path.{ap, ◌∙◌}
 use native.Mathlib.Omega.{arith}
-use Rattle.buffers.proofs.Fill.{filled_none, filled_more, filled-end}
+use Rattle.buffers.proofs.Fill.{filled_none, filled_more}
 use Rattle.row_filter.specs.Filter.{leaf}
 use Rattle.row_filter.proofs.filter_run.Goals as goal
 
 pub loop-n-init : goal.loop-n-init
-loop-n-init c = (omega arith, omega arith, filled_none _ _ _)
+loop-n-init c = filled_none _ _ _
 
 pub loop-n-preserved : goal.loop-n-preserved
-loop-n-preserved c = (
-  omega arith,
-  omega arith,
-  filled_more _ _ _ _ _ _ c.loop-n.invariant.2 (omega arith) (omega arith)
-      (c.leaf_of.ensures ∙ ap (leaf c.args.made c.args.kind) c.window_rows.ensures),
-)
-
-pub shape_of-map : goal.shape_of-map
-shape_of-map c = c.loop-n.invariant.2.same
-
-pub returns : goal.returns
-returns c = filled-end _ _ _ _ _ _ c.loop-n.invariant.1 c.loop-n-test.false c.loop-n.invariant.2
+loop-n-preserved c =
+    filled_more _ _ _ _ _ _ c.loop-n.invariant c.loop-n.auto.n (omega arith) (c.leaf_of.ensures ∙ ap (leaf c.args.made c.args.kind) c.window_rows.ensures)

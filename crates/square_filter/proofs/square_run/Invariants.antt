@@ -1,10 +1,6 @@
 -- `square_run` leaves the highest of three rows of threes, place by place: the invariant is `SquaredRun` up to the place reached.
-use Prim.Native.Nat.{◌-◌, ◌≤◌}
 use Rattle.square_filter.specs.Square.{SquaredRun}
 use Rattle.square_filter.proofs.square_run.Given as goal
 
 abbrev pub invariant-loop-i : goal.invariant-loop-i
-invariant-loop-i l = (l.i ≤ l.count) × SquaredRun l.from l.width l.i l.initial.above l.mid l.above l.initial.map l.map
-
-abbrev pub decreases-loop-i : goal.decreases-loop-i
-decreases-loop-i l = l.count - l.i
+invariant-loop-i l = SquaredRun l.from l.width l.i l.initial.above l.mid l.above l.initial.map l.map

@@ -6,5 +6,5 @@ pub returns : goal.returns
 returns c =
     let given = c.args in
     highest-around given.kind given.above.now given.mid.now given.below.now given.n
-    c.higher.ensures c.higher-along.ensures c.higher-beside.ensures
+    c.max.ensures c.max-along.ensures c.max-beside.ensures
     c.highest_beside.ensures c.highest_beside-2.ensures

@@ -1,7 +1,5 @@
 -- `read_row` leaves a row's numbers in the array, and zeros for the row past the last.
-use Prim.Native.Nat.{◌+◌, ◌*◌, ◌≤◌, ◌<◌}
 use native.Mathlib.Omega.{arith}
-use lib.ListN.{length}
 use Rattle.wide_rows.specs.Wide.{wide_numbers}
 use Rattle.wide_axis.proofs.Pass.{row-bytes, row_read, row-past}
 use Rattle.wide_axis.proofs.read_row.Goals as goal
@@ -9,16 +7,10 @@ use Rattle.wide_axis.proofs.read_row.Goals as goal
 -- the row's bytes lie in the map
 
 pub overflow_mul-y : goal.overflow_mul-y
-overflow_mul-y c =
-    let bytes-within : c.args.y < c.args.head.height
-    → 2 * (c.args.y * c.args.head.width + c.args.head.width) ≤ length c.args.map.now = λ h. row-bytes c.args.head c.args.y _ h c.requires.room in
-    omega (arith, bytes-within c.if-y-head.true)
+overflow_mul-y c = omega (arith, row-bytes c.args.head c.args.y _ c.if-y-head.true c.requires.room)
 
 pub load_numbers-requires : goal.load_numbers-requires
-load_numbers-requires c =
-    let bytes-within : c.args.y < c.args.head.height
-    → 2 * (c.args.y * c.args.head.width + c.args.head.width) ≤ length c.args.map.now = λ h. row-bytes c.args.head c.args.y _ h c.requires.room in
-    (bytes-within c.if-y-head.true, c.requires.held.narrow, c.requires.margins)
+load_numbers-requires c = (row-bytes c.args.head c.args.y _ c.if-y-head.true c.requires.room, c.requires.held.narrow, c.requires.margins)
 
 pub returns-then-y-head : goal.returns-then-y-head
 returns-then-y-head c =
