@@ -1,13 +1,10 @@
+-- `copy_row` copies the columns as one part.
 use mathlib.Core.Path.{refl}
 use native.Mathlib.Omega.{arith}
-use Rattle.buffers.proofs.Fill.{filled_none, filled_more, filled-end}
+use Rattle.buffers.proofs.Fill.{filled-copied}
+use Rattle.row_arrays.specs.Rows.{margin}
 use Rattle.wide_rows.proofs.copy_row.Goals as goal
 
-pub loop-n-init : goal.loop-n-init
-loop-n-init c = (omega arith, omega arith, filled_none _ _ _)
-
-pub loop-n-preserved : goal.loop-n-preserved
-loop-n-preserved c = (omega arith, omega arith, filled_more _ _ _ _ _ _ c.loop-n.invariant.2 (omega arith) (omega arith) refl)
-
 pub returns : goal.returns
-returns c = filled-end _ _ _ _ _ _ c.loop-n.invariant.1 c.loop-n-test.false c.loop-n.invariant.2
+returns c =
+    filled-copied _ _ _ _ _ _ (omega arith) (omega arith) c.args.row.now margin _ c.copy_from_slice.ensures.after (omega arith) (omega arith) (λ n h. refl)
