@@ -18,7 +18,7 @@ pub fn clearance_map(
 ) -> Verdict
     ensures { ClearanceMap relief.now kind width height level out.old out.new result }
 {
-    let shortest = numbers::smaller(relief.len(), out.len());
+    let shortest = relief.len().min(out.len());
     let verdict = refusal::check_map(kind, width, height, level == 0, shortest);
     match verdict {
         Verdict::Accepted => {
@@ -59,7 +59,7 @@ pub fn axis_map(
 pub fn reconstruct(map: &[u8], kind: u8, width: u16, height: u16, out: &mut [u8]) -> Verdict
     ensures { Reconstruction map.now kind width height out.old out.new result }
 {
-    let shortest = numbers::smaller(map.len(), out.len());
+    let shortest = map.len().min(out.len());
     let verdict = refusal::check_map(kind, width, height, false, shortest);
     match verdict {
         Verdict::Accepted => {
