@@ -2,7 +2,7 @@
 use mathlib.Core.Path.{◌≡◌, refl, sym, ap, ◌∙◌, subst}
 use mathlib.Core.Bool.{Bool, true, false}
 use mathlib.Core.List.{List, [], ◌∷◌, ◌++◌}
-use Prim.Native.Nat.{ℕ, zero, suc, ◌+◌, ◌*◌, ◌≤◌, ◌<◌, min}
+use Prim.Native.Nat.{ℕ, ◌+◌, ◌*◌, ◌≤◌, ◌<◌, min}
 use native.Mathlib.Omega.{arith}
 use native.Mathlib.Nat.{mul-le-mul}
 use native.Mathlib.Numerals.{add-one}
@@ -112,11 +112,6 @@ sum_more m n h = ap (λ (j : ℕ). sum (take j m)) (add-one n) ∙ ap sum (take-
     last : (l : List ℕ) (r : ℕ) → sum (l ++ (r ∷ [])) ≡ sum l + r
     last [] r = omega arith
     last (x ∷ l) r = omega (arith, last l r)
-
--- the sum of n bytes is at most 255 times n
-pub sum_bound : (m : List ℕ) (n : ℕ) → ((i : ℕ) → get_or m i 0 < 256) → n ≤ length m → sum (take n m) ≤ 255 * n
-sum_bound m zero b h = omega arith
-sum_bound m (suc n) b h = omega (arith, ap (λ (j : ℕ). sum (take j m)) (sym (add-one n)) ∙ sum_more m n h, sum_bound m n b (omega arith), b n)
 
 -- a plate of sides that were not refused has no more cells than the largest
 pub area_small : (w h : ℕ) → w ≤ largest_side → h ≤ largest_side → h * w ≤ largest_area
