@@ -6,12 +6,11 @@ use Prim.Native.Nat.{ℕ, ◌+◌, ◌*◌, ◌-◌, ◌/◌, ◌%◌, ◌≤◌
 use native.Mathlib.Omega.{arith}
 use native.Mathlib.Decide.{dec_le}
 use native.Mathlib.Nat.{suc-mul, mul-le-mul_right, div-add-mod', div-lt_iff_lt-mul, mod-lt, mul-zero, eq-zero-or-pos}
-use lib.Arith.{digits_lt}
 use lib.ListN.{length, get_or, take, drop, set, length-set, length-append, length-drop, get_or-append}
 use lib.Seq.{ext_get_or, get_or-set_same, get_or-set_other, get_or-append-add, get_or-drop, get_or-take, length-take-le}
 use borrow.Rule.Slice.PartMut.{put_mid, post_of}
 use Rattle.geometry.specs.declared.Head.{Head}
-use Rattle.geometry.specs.Plane.{Cell, cell}
+use Rattle.geometry.specs.Plane.{Cell}
 use Rattle.geometry.specs.Plate.{area, tabulated}
 use Rattle.theory.proofs.Plate.{length-tabulated, get_or-tabulated}
 use Rattle.buffers.specs.Fill.{Filled, Mapped}
@@ -27,10 +26,6 @@ row_under w a x y h l = omega (arith, mul-le-mul_right w l, suc-mul y w)
 
 pub row-over : (w b x y : ℕ) → b ≤ y → b * w ≤ y * w + x
 row-over w b x y l = omega (arith, mul-le-mul_right w l)
-
--- a place is one of a row and a column
-pub place-cell : (w n : ℕ) → 0 < w → (x : ℕ) × (y : ℕ) × (x < w) × (n ≡ y * w + x)
-place-cell w n h = (n % w, n / w, mod-lt n h, sym (div-add-mod' n w))
 
 -- ---- filling
 
@@ -161,16 +156,6 @@ module _ (p : Head) (f : Cell → ℕ) (old new : List ℕ) where
           ∙ sym (get_or-tabulated p f (n % p.width) (n / p.width) hx hy)
           ∙ ap (λ (j : ℕ). get_or (tabulated p f) j 0) k
           ∙ sym (get_or-append (tabulated p f) (drop (length (tabulated p f)) old) 0 n (omega (arith, length-tabulated p f)))
-
-  -- a filled stretch that is the whole map
-  pub filled-map : (g : ℕ → ℕ) → Filled g 0 (area p) old new → ((x y : ℕ) → x < p.width → y < p.height → g (y * p.width + x) ≡ f (cell x y))
-      → Mapped p f old new
-  filled-map g h e =
-      record {
-        same = h.same;
-        holds = λ x y a b. h.inside (y * p.width + x) (omega arith) (digits_lt b a) ∙ e x y a b;
-        surplus = h.over;
-      }
 
   -- the bytes past the map, as the rest of a list
   pub surplus-drop : (same : length new ≡ length old) → ((n : ℕ) → area p ≤ n → get_or new n 0 ≡ get_or old n 0) → drop (area p) new ≡ drop (area p) old

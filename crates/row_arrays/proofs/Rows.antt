@@ -10,15 +10,12 @@ use lib.IntN.{pos}
 use lib.ListN.{length, get_or, replicate, length-replicate, get_or-replicate, get_or-eq_default}
 use lib.Seq.{ext_get_or}
 use Rattle.geometry.specs.declared.Kind.{Kind}
-use Rattle.geometry.specs.declared.Head.{Head}
 use Rattle.geometry.specs.Plane.{gap}
 use Rattle.buffers.specs.Fill.{Filled}
 use Rattle.buffers.proofs.Fill.{filled-as}
 use Rattle.row_arrays.specs.declared.Seeds.TheVariants.{Numbers}
 use Rattle.refusal.specs.Refusals.{largest_side}
-use Rattle.refusal.specs.Sides.{Sides}
 use Rattle.row_arrays.specs.Start.{wall_seed, seed}
-use Rattle.row_arrays.specs.Asked.{Held}
 use Rattle.row_arrays.specs.Rows.{margin, row_places, widest_row, row_reach, Margins, Row, propagated_at, Line, Widened, joined_row, Merged}
 
 -- ---- the numbers of row arrays
@@ -33,9 +30,6 @@ pub record RowFits : Type 0 where
 
 pub row_fits : RowFits
 row_fits = record { held = omega arith; holds = omega arith; reached = omega arith; above = omega arith }
-
-pub plate-held : (p : Head) → Sides p → Held p
-plate-held p s = record { wide = s.wide; narrow = omega (arith, s.narrow, row_fits.holds); tall = s.tall }
 
 -- ---- margins
 
