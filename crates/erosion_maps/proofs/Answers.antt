@@ -31,10 +31,7 @@ free-not v e g = true-not-false (sym (ap free e) ∙ g)
     true-not-false : true ≡ false → ⊥
     true-not-false d = let z : ◌≡◌ {A = ℕ} 0 1 = cc in omega arith
 
--- a work buffer that was not touched, and one whose plate's bytes were used
-worked-none : (v : Verdict) (n : ℕ) (a : List ℕ) → Worked v n a a
-worked-none v n a = record { same = refl; surplus = refl; kept = λ h. refl }
-
+-- a work buffer whose plate's bytes were used
 worked-plate : (v : Verdict) (p : Head) (a a' : List ℕ) → v ≡ Accepted → PlateOnly p a a' → Worked v (area p) a a'
 worked-plate v p a a' e x =
     record { same = x.same; surplus = surplus-drop p (λ c. 0) a a' x.same x.surplus; kept = λ g. absurd (free-not v e g) }
