@@ -3,7 +3,7 @@
 
 ghost use Rattle.std.specs.Prelude.{◌≡◌, cond, ◌+◌, ◌-◌, ◌*◌, ◌≤◌, ◌<◌, max, eqb, length, get_or};
 ghost use Rattle.buffers.specs.Fill.{Filled};
-ghost use Rattle.row_arrays.specs.Rows.{margin, row_places, widest_row, row_reach, Row, propagated_at, Widened, highest_beside, joined_row, Merged};
+ghost use Rattle.row_arrays.specs.Rows.{margin, row_places, widest_row, row_reach, Row, propagated_at, Widened, highest_beside, joined_row, with_columns, Merged};
 ghost use Rattle.row_arrays.specs.Start.{seed, start};
 ghost use Rattle.row_arrays.specs.Asked.{Loadable, RowPair, Mergeable};
 
@@ -144,10 +144,10 @@ fn store_row(row: &[u8; ROW_PLACES], out: &mut [u8], from: usize, width: usize)
     out[from..from + width].copy_from_slice(&row[MARGIN..MARGIN + width]);
 }
 
-// A row's columns to those of another.
-fn copy_row(row: &[u8; ROW_PLACES], beside: &mut [u8; ROW_PLACES], width: usize)
-    requires { (width ≤ widest_row) × (length beside.old ≡ row_places) }
-    ensures { Filled (λ n. get_or row.now n 0) margin (margin + width) beside.old beside.new }
+// A row's columns to those of another, whatever the numbers' width.
+pub fn copy_row<T: Copy>(row: &[T], beside: &mut [T], width: usize)
+    requires { (width ≤ widest_row) × (length row.now ≡ row_places) × (length beside.old ≡ row_places) }
+    ensures { beside.new ≡ with_columns width row.now beside.old }
 {
     beside[MARGIN..MARGIN + width].copy_from_slice(&row[MARGIN..MARGIN + width]);
 }

@@ -51,7 +51,7 @@ fn mark_row(
     wide_rows::propagate_row(row, spare, width);
     wide_rows::join_row(kind, beside, row, width);
     mark_run(row, out, y * width, width);
-    wide_rows::copy_row(row, beside, width);
+    row_arrays::copy_row(row, beside, width);
 }
 
 // Every row, each with the rows above it.

@@ -154,14 +154,6 @@ fn store_row(row: &[u16; ROW_PLACES], out: &mut [u8], from: usize, width: usize)
     }
 }
 
-// A row's columns to those of another.
-pub fn copy_row(row: &[u16; ROW_PLACES], beside: &mut [u16; ROW_PLACES], width: usize)
-    requires { (width ≤ widest_row) × (length beside.old ≡ row_places) }
-    ensures { Filled (λ n. get_or row.now n 0) margin (margin + width) beside.old beside.new }
-{
-    beside[MARGIN..MARGIN + width].copy_from_slice(&row[MARGIN..MARGIN + width]);
-}
-
 // Joins a row with the row beside, stores it, and leaves it as the next row's row beside.
 pub fn merge_row(
     kind: Kind,
@@ -177,5 +169,5 @@ pub fn merge_row(
 {
     join_row(kind, beside, row, width);
     store_row(row, out, from, width);
-    copy_row(row, beside, width);
+    row_arrays::copy_row(row, beside, width);
 }
