@@ -6,11 +6,11 @@ use Prim.Native.Nat.{ℕ, ◌+◌, ◌*◌, ◌-◌, ◌/◌, ◌%◌, ◌≤◌
 use native.Mathlib.Omega.{arith}
 use native.Mathlib.Decide.{dec_le}
 use native.Mathlib.Nat.{suc-mul, mul-le-mul_right, div-add-mod', div-lt_iff_lt-mul, mod-lt, mul-zero, eq-zero-or-pos}
-use lib.Arith.{digits_lt}
-use lib.ListN.{length, get_or, drop, set, length-set, length-append, length-drop, get_or-append}
-use lib.Seq.{ext_get_or, get_or-set_same, get_or-set_other, get_or-append-add, get_or-drop}
+use lib.ListN.{length, get_or, take, drop, set, length-set, length-append, length-drop, get_or-append}
+use lib.Seq.{ext_get_or, get_or-set_same, get_or-set_other, get_or-append-add, get_or-drop, get_or-take, length-take-le}
+use borrow.Rule.Slice.PartMut.{put_mid, post_of}
 use Rattle.geometry.specs.declared.Head.{Head}
-use Rattle.geometry.specs.Plane.{Cell, cell}
+use Rattle.geometry.specs.Plane.{Cell}
 use Rattle.geometry.specs.Plate.{area, tabulated}
 use Rattle.theory.proofs.Plate.{length-tabulated, get_or-tabulated}
 use Rattle.buffers.specs.Fill.{Filled, Mapped}
@@ -26,10 +26,6 @@ row_under w a x y h l = omega (arith, mul-le-mul_right w l, suc-mul y w)
 
 pub row-over : (w b x y : ℕ) → b ≤ y → b * w ≤ y * w + x
 row-over w b x y l = omega (arith, mul-le-mul_right w l)
-
--- a place is one of a row and a column
-pub place-cell : (w n : ℕ) → 0 < w → (x : ℕ) × (y : ℕ) × (x < w) × (n ≡ y * w + x)
-place-cell w n h = (n % w, n / w, mod-lt n h, sym (div-add-mod' n w))
 
 -- ---- filling
 
@@ -74,6 +70,58 @@ filled_on f from mid to old half new a b h l =
     go n c d (yes e) = l.inside n e d
     go n c d (no e) = l.under n (omega arith) ∙ h.inside n c (omega arith)
 
+-- a part of a buffer written as one: `buffer[from..to]` had k places and now holds part
+module _ (f : ℕ → ℕ) (from k to : ℕ) (old part : List ℕ) (at-end : to ≡ from + k) (room : to ≤ length old) where
+  pub filled-part : length part ≡ k → ((n : ℕ) → n < k → get_or part n 0 ≡ f (from + n)) → Filled f from to old (put_mid from k old part)
+  filled-part long h =
+      record {
+        same = sizes;
+        inside = λ n a b.
+            let e : n ≡ from + (n - from) = omega arith in
+            subst (λ (j : ℕ). get_or (put_mid from k old part) j 0 ≡ f j) (sym e) (in-part (n - from) (omega arith));
+        under = λ n a. get_or-append (take from old) (part ++ post_of from k old) 0 n (omega (arith, before)) ∙ get_or-take from old n 0 a;
+        over = λ n a.
+            let e : n ≡ from + (k + (n - to)) = omega arith in
+            subst (λ (j : ℕ). get_or (put_mid from k old part) j 0 ≡ get_or old j 0) (sym e) (past (n - to));
+      }
+    where
+      before : length (take from old) ≡ from
+      before = length-take-le from old (omega arith)
+
+      -- a place from the part on
+      on : (n : ℕ) → get_or (put_mid from k old part) (from + n) 0 ≡ get_or (part ++ post_of from k old) n 0
+      on n =
+          ap (λ (j : ℕ). get_or (put_mid from k old part) (j + n) 0) (sym before)
+          ∙ get_or-append-add (take from old) (part ++ post_of from k old) n 0
+
+      in-part : (n : ℕ) → n < k → get_or (put_mid from k old part) (from + n) 0 ≡ f (from + n)
+      in-part n l = on n ∙ get_or-append part (post_of from k old) 0 n (omega arith) ∙ h n l
+
+      past : (n : ℕ) → get_or (put_mid from k old part) (from + (k + n)) 0 ≡ get_or old (from + (k + n)) 0
+      past n =
+          on (k + n)
+          ∙ ap (λ (j : ℕ). get_or (part ++ post_of from k old) (j + n) 0) (sym long)
+          ∙ get_or-append-add part (post_of from k old) n 0
+          ∙ get_or-drop k (drop from old) n 0
+          ∙ get_or-drop from old (k + n) 0
+
+      sizes : length (put_mid from k old part) ≡ length old
+      sizes = omega (
+        arith,
+        before,
+        length-append (take from old) (part ++ post_of from k old),
+        length-append part (post_of from k old),
+        length-drop k (drop from old),
+        length-drop from old,
+      )
+
+  -- the same, copied from a part of another list
+  pub filled-copied : (source : List ℕ) (start m : ℕ) → part ≡ take m (drop start source) → m ≡ k → start + k ≤ length source
+      → ((n : ℕ) → n < k → f (from + n) ≡ get_or source (start + n) 0) → Filled f from to old (put_mid from k old part)
+  filled-copied source start m is few h e =
+      filled-part (ap (λ (l : List ℕ). length l) is ∙ length-take-le m (drop start source) (omega (arith, length-drop start source)) ∙ few)
+      (λ n l. ap (λ (l : List ℕ). get_or l n 0) is ∙ get_or-take m (drop start source) n 0 (omega arith) ∙ get_or-drop start source n 0 ∙ sym (e n l))
+
 -- ---- maps in buffers
 
 module _ (p : Head) (f : Cell → ℕ) (old new : List ℕ) where
@@ -108,16 +156,6 @@ module _ (p : Head) (f : Cell → ℕ) (old new : List ℕ) where
           ∙ sym (get_or-tabulated p f (n % p.width) (n / p.width) hx hy)
           ∙ ap (λ (j : ℕ). get_or (tabulated p f) j 0) k
           ∙ sym (get_or-append (tabulated p f) (drop (length (tabulated p f)) old) 0 n (omega (arith, length-tabulated p f)))
-
-  -- a filled stretch that is the whole map
-  pub filled-map : (g : ℕ → ℕ) → Filled g 0 (area p) old new → ((x y : ℕ) → x < p.width → y < p.height → g (y * p.width + x) ≡ f (cell x y))
-      → Mapped p f old new
-  filled-map g h e =
-      record {
-        same = h.same;
-        holds = λ x y a b. h.inside (y * p.width + x) (omega arith) (digits_lt b a) ∙ e x y a b;
-        surplus = h.over;
-      }
 
   -- the bytes past the map, as the rest of a list
   pub surplus-drop : (same : length new ≡ length old) → ((n : ℕ) → area p ≤ n → get_or new n 0 ≡ get_or old n 0) → drop (area p) new ≡ drop (area p) old

@@ -9,11 +9,7 @@ pub fn zero_run(dst: &mut [u8], from: usize, to: usize)
     requires { (from ≤ to) × (to ≤ length dst.old) }
     ensures { Filled (λ n. 0) from to dst.old dst.new }
 {
-    let mut n = from;
-    while n < to {
-        dst[n] = 0;
-        n += 1;
-    }
+    dst[from..to].fill(0);
 }
 
 // The bytes of a buffer up to a place, to the start of another.
@@ -21,9 +17,5 @@ pub fn copy_run(src: &[u8], dst: &mut [u8], to: usize)
     requires { (to ≤ length src.now) × (to ≤ length dst.old) }
     ensures { Filled (λ n. get_or src.now n 0) 0 to dst.old dst.new }
 {
-    let mut n = 0;
-    while n < to {
-        dst[n] = src[n];
-        n += 1;
-    }
+    dst[..to].copy_from_slice(&src[..to]);
 }

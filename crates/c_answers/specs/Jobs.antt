@@ -22,7 +22,7 @@ of_list (Err r) = record { number = r.number; place = r.place; bytes = 0; plunge
 
 -- the inner call's promise holds of an answer, and the struct says that answer
 abbrev pub ToldList : ((Result Extent Refusal) → Type 0) → HaruListAnswer → Type 0
-ToldList P r = (v : (Result Extent Refusal)) × P v × (r ≡ of_list v)
+ToldList P r = (v : Result Extent Refusal) × P v × (r ≡ of_list v)
 
 abbrev nothing : Float
 nothing = whole 0

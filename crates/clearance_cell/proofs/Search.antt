@@ -3,7 +3,7 @@
 use mathlib.Core.Path.{◌≡◌, refl, sym, ap, ◌∙◌, subst}
 use mathlib.Core.Logic.{⊎_elim}
 use mathlib.Core.List.{List}
-use Prim.Native.Nat.{ℕ, ◌+◌, ◌*◌, ◌-◌, ◌≤◌, ◌<◌, min, max}
+use Prim.Native.Nat.{ℕ, ◌+◌, ◌*◌, ◌-◌, ◌≤◌, ◌<◌, min}
 use native.Mathlib.Omega.{arith}
 use native.Mathlib.Decide.{dec_le}
 use native.Mathlib.Nat.{suc-mul, mul-le-mul_right}
@@ -20,7 +20,7 @@ use Rattle.theory.proofs.Distance.{gap-self}
 use Rattle.theory.proofs.Balls.{col-near, row_near}
 use Rattle.theory.proofs.Plate.{at-cell}
 use Rattle.theory.proofs.Levels.{clearance-unique}
-use Rattle.clearance_cell.specs.Search.{edge_distance, Free, Wall, RowGap, apart, InRow}
+use Rattle.clearance_cell.specs.Search.{edge_distance, Free, Wall, apart, InRow}
 
 -- ---- columns and rows apart
 
@@ -48,16 +48,7 @@ same-column : (kd : Kind) (j : ℕ) → apart kd 0 j ≡ j
 same-column Diamond j = omega arith
 same-column Square j = omega arith
 
--- ---- one row, by the gap to either side of a place
-
-module _ (m : List ℕ) (t place j best g : ℕ) (near : j < best) where
-  pub diamond-row : RowGap m t place (best - j) g → InRow Diamond m t place j best (g + j)
-  diamond-row h =
-      record { most = omega (arith, h.most); free = λ i l. h.free i (omega arith); wall = λ l. (g, refl, h.wall (omega arith)) }
-
-  pub square-row : RowGap m t place best g → InRow Square m t place j best (max g j)
-  square-row h =
-      record { most = omega (arith, h.most); free = λ i l. h.free i (omega arith); wall = λ l. (g, refl, h.wall (omega arith)) }
+-- ---- one row
 
 -- a row that is no nearer than the wall found holds no nearer one
 pub far-row : (kd : Kind) (m : List ℕ) (t place j best : ℕ) → best ≤ j → InRow kd m t place j best best
@@ -224,9 +215,6 @@ module _ (p : Head) (m : List ℕ) (t x y : ℕ) where
       bound d h (no l) = absurd (omega (arith, free d (omega arith)))
 
 -- ---- what the loop asks
-
-pub rows_left : (away best r : ℕ) → away < best → r ≤ best → r - (away + 1) < best - away
-rows_left away best r h l = omega arith
 
 -- the places nearer than r to either side, in row b, are places of that row
 pub row-places : {p : Head} {x y r : ℕ} → Room p x y r → (b : ℕ) → b < p.height → (r ≤ b * p.width + x + 1) × (b * p.width + x + r ≤ area p)

@@ -15,10 +15,8 @@ fn edge_distance(width: usize, height: usize, column: usize, row: usize) -> usiz
     requires { (column < width) × (row < height) }
     ensures { result ≡ edge_distance width height column row }
 {
-    numbers::smaller(
-        numbers::smaller(column + 1, width - column),
-        numbers::smaller(row + 1, height - row),
-    )
+    let beside = (column + 1).min(width - column);
+    beside.min((row + 1).min(height - row))
 }
 
 // How far from a place, to either side, the first byte below a level stands; the limit if none stands nearer.
@@ -26,15 +24,10 @@ fn row_gap(map: &[u8], level: u8, place: usize, limit: usize) -> usize
     requires { (limit ≤ place + 1) × (place + limit ≤ length map.now) }
     ensures { RowGap map.now level place limit result }
 {
-    let mut gap = 0;
-    while gap < limit {
-        if map[place - gap] < level {
+    for gap in 0..limit {
+        if map[place - gap] < level || map[place + gap] < level {
             return gap;
         }
-        if map[place + gap] < level {
-            return gap;
-        }
-        gap += 1;
     }
     limit
 }
@@ -53,7 +46,7 @@ fn nearest_in_row(
 {
     match kind {
         Kind::Diamond => row_gap(map, level, place, best - away) + away,
-        Kind::Square => numbers::larger(row_gap(map, level, place, best), away),
+        Kind::Square => row_gap(map, level, place, best).max(away),
     }
 }
 
@@ -67,6 +60,7 @@ fn nearest_wall(head: Head, map: &[u8], level: u8, column: usize, row: usize) ->
     let height = head.height as usize;
     let mut best = edge_distance(width, height, column, row);
     let mut away = 0;
+    // no range: the end comes nearer as walls are found
     while away < best {
         best = nearest_in_row(kind, map, level, (row - away) * width + column, away, best);
         if away < best {
@@ -80,13 +74,7 @@ fn nearest_wall(head: Head, map: &[u8], level: u8, column: usize, row: usize) ->
 fn is_wrong_cell(level: u8, column: u16, row: u16, width: u16, height: u16) -> bool
     ensures { result ≡ wrong_cell level column row width height }
 {
-    if level == 0 {
-        return true;
-    }
-    if column < width {
-        return !(row < height);
-    }
-    true
+    level == 0 || column >= width || row >= height
 }
 
 // The distance from one cell to the nearest cell that is not in the shape of a level; refusals 1, 2, 3 and 4.

@@ -1,5 +1,5 @@
 -- Laws of the calls: what an accepted call knows of its plate and buffers, and what each answer leaves in the output.
-use Rattle.std.specs.Prelude.{Ok, Err}
+use Rattle.std.specs.Prelude.{Ok}
 use mathlib.Core.Path.{◌≡◌, sym, ap, ◌∙◌, subst}
 use mathlib.Core.Bool.{Bool, not}
 use mathlib.Core.List.{List, [], ◌∷◌, ◌++◌}
@@ -12,7 +12,6 @@ use Rattle.geometry.specs.declared.Head.{Head}
 use Rattle.geometry.specs.Plane.{Cell}
 use Rattle.geometry.specs.Plate.{area, tabulated}
 use Rattle.theory.proofs.Plate.{length-tabulated, get_or-tabulated}
-use Rattle.refusal.specs.declared.Refusal.{Refusal}
 use Rattle.refusal.specs.Refusals.{trial, first_met, map_trials, is_level, bad_kind, bad_sides, head_of, written, Answered}
 use Rattle.refusal.proofs.Refusals.{Sound, shortest-two, map-sound, level-ok}
 use Rattle.buffers.specs.Fill.{Mapped}
@@ -57,13 +56,6 @@ module _ (k w h : ℕ) (wrong : Bool) (m out : List ℕ) where
   pub by-shorter : (n : ℕ) → n ≡ min (length m) (length out) → (v : Verdict) → v ≡ first_met (map_trials k w h wrong (n ∷ [])) → v ≡ said
   by-shorter n e v g = g ∙ smaller-said n e
 
-  -- on a refusal an output is as it was, whatever was to be written
-  pub refused-again : (r : Refusal) (new new' out' : List ℕ) (v : Verdict) → Answered said new out out' v → v ≡ Err r
-      → Answered said new' out out' (Err r)
-  refused-again r new new' out' v a e =
-      let i : said ≡ Err r = sym a.answer ∙ e in
-      record { answer = sym i; bytes = a.bytes ∙ ap (λ (u : Verdict). written u new out) i ∙ ap (λ (u : Verdict). written u new' out) (sym i) }
-
   module _ (a : said ≡ Ok tt) where
     sound : Sound w h wrong (min (length m) (length out))
     sound = map-sound k w h wrong (min (length m) (length out)) (smaller-said (min (length m) (length out)) (omega arith) ∙ a)
@@ -75,9 +67,6 @@ module _ (k w h : ℕ) (wrong : Bool) (m out : List ℕ) where
           read = omega (arith, sound.long);
           room = omega (arith, sound.long);
         }
-
-    pub accepted-plates : (p : Head) → p ≡ head_of k w h → Plates p m out
-    accepted-plates p e = subst (λ (p : Head). Plates p m out) (sym e) plates
 
     -- a level that is not refused is 1 or more
     pub accepted-level : (t : ℕ) → wrong ≡ not (is_level t) → 1 ≤ t

@@ -18,7 +18,7 @@ pub fn clearance_map(
 ) -> Verdict
     ensures { ClearanceMap relief.now kind width height level out.old out.new result }
 {
-    let shortest = numbers::smaller(relief.len(), out.len());
+    let shortest = relief.len().min(out.len());
     refusal::check_map(kind, width, height, level == 0, shortest)?;
     distance_transform::transform(
         refusal::head_of(kind, width, height),
@@ -49,7 +49,7 @@ pub fn axis_map(
 pub fn reconstruct(map: &[u8], kind: u8, width: u16, height: u16, out: &mut [u8]) -> Verdict
     ensures { Reconstruction map.now kind width height out.old out.new result }
 {
-    let shortest = numbers::smaller(map.len(), out.len());
+    let shortest = map.len().min(out.len());
     refusal::check_map(kind, width, height, false, shortest)?;
     distance_transform::transform(
         refusal::head_of(kind, width, height),

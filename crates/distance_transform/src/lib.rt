@@ -46,10 +46,8 @@ fn pass_down(head: Head, seeds: Seeds, map: &[u8], out: &mut [u8])
     let mut spare = [0u8; ROW_PLACES];
     let mut above = [0u8; ROW_PLACES];
     let height = head.height as usize;
-    let mut y = 0;
-    while y < height {
+    for y in 0..height {
         row_down(head, seeds, map, y, &mut row, &mut spare, &mut above, out);
-        y += 1;
     }
 }
 
@@ -78,10 +76,9 @@ fn pass_up(head: Head, out: &mut [u8])
     let mut row = [0u8; ROW_PLACES];
     let mut below = [0u8; ROW_PLACES];
     let width = head.width as usize;
-    let mut y = (head.height as usize) - 1;
-    row_arrays::load_run(Seeds::Numbers, out, y * width, width, 0, &mut below);
-    while 0 < y {
-        y -= 1;
+    let last = (head.height as usize) - 1;
+    row_arrays::load_run(Seeds::Numbers, out, last * width, width, 0, &mut below);
+    for y in (0..last).rev() {
         row_up(head, y, &mut row, &mut below, out);
     }
 }
@@ -102,10 +99,8 @@ fn finish_run(seeds: Seeds, out: &mut [u8], to: usize)
     requires { to ≤ length out.old }
     ensures { Filled (λ n. finish seeds (get_or out.old n 0)) 0 to out.old out.new }
 {
-    let mut n = 0;
-    while n < to {
-        out[n] = finish_of(seeds, out[n]);
-        n += 1;
+    for v in out[..to].iter_mut() {
+        *v = finish_of(seeds, *v);
     }
 }
 

@@ -1,11 +1,10 @@
 -- What a call leaves, refused and accepted; the shortest buffer stands for all four; the volume's sum.
-use Rattle.std.specs.Prelude.{Ok, Err}
+use Rattle.std.specs.Prelude.{Ok}
 use mathlib.Core.Path.{◌≡◌, refl, sym, ap, ◌∙◌, subst}
 use mathlib.Core.Bool.{Bool, true, false}
 use mathlib.Core.List.{List, [], ◌∷◌, ◌++◌}
-use Prim.Native.Nat.{ℕ, zero, suc, ◌+◌, ◌*◌, ◌≤◌, ◌<◌, min}
+use Prim.Native.Nat.{ℕ, ◌+◌, ◌*◌, ◌≤◌, ◌<◌, min}
 use native.Mathlib.Omega.{arith}
-use native.Mathlib.Nat.{mul-le-mul}
 use native.Mathlib.Numerals.{add-one}
 use lib.ListN.{length, get_or, take}
 use lib.Seq.{take-suc}
@@ -17,12 +16,10 @@ use Rattle.theory.specs.Erosion.{volume}
 use Rattle.theory.proofs.Residues.{volume-take}
 use Rattle.buffers.specs.Fill.{PlateOnly}
 use Rattle.buffers.proofs.Fill.{mapped-bytes, surplus-drop}
-use Rattle.refusal.specs.declared.Refusal.{Refusal}
-use Rattle.refusal.specs.Refusals.{first_met, map_trials, head_of, written, free, Worked, largest_side}
-use Rattle.refusal.proofs.Refusals.{same-verdict, shortest-two, map-sound, Sound, answered-refused}
+use Rattle.refusal.specs.Refusals.{first_met, map_trials, head_of, written, free, Worked}
+use Rattle.refusal.proofs.Refusals.{same-verdict, shortest-two, map-sound, Sound}
 use Rattle.erosion_series.specs.Pairs.{MapBuffers, MapFilled}
-use Rattle.erosion_maps.specs.Maps.{largest_area, asked_map, four_verdict}
-use Rattle.erosion_maps.specs.declared.Asked.{Asked}
+use Rattle.erosion_maps.specs.Maps.{four_verdict}
 use Rattle.erosion_maps.specs.Calls.{Left}
 use Rattle.refusal.specs.Refusals.{Verdict}
 
@@ -34,10 +31,7 @@ free-not v e g = true-not-false (sym (ap free e) ∙ g)
     true-not-false : true ≡ false → ⊥
     true-not-false d = let z : ◌≡◌ {A = ℕ} 0 1 = cc in omega arith
 
--- a work buffer that was not touched, and one whose plate's bytes were used
-worked-none : (v : Verdict) (n : ℕ) (a : List ℕ) → Worked v n a a
-worked-none v n a = record { same = refl; surplus = refl; kept = λ h. refl }
-
+-- a work buffer whose plate's bytes were used
 worked-plate : (v : Verdict) (p : Head) (a a' : List ℕ) → v ≡ Ok tt → PlateOnly p a a' → Worked v (area p) a a'
 worked-plate v p a a' e x =
     record { same = x.same; surplus = surplus-drop p (λ c. 0) a a' x.same x.surplus; kept = λ g. absurd (free-not v e g) }
@@ -56,17 +50,9 @@ module _ (k w h : ℕ) (wrong : Bool) (m out a b : List ℕ) where
       ∙ shortest-two (h * w) (min (length m) (length out)) (length a) (length b ∷ [])
       ∙ shortest-two (h * w) (min (min (length m) (length out)) (length a)) (length b) []))
 
-  -- on a refusal everything is as it was
-  pub left-refused : (q : Refusal) (new : List ℕ) → said ≡ Err q → Left said (h * w) new out out a a b b (Err q)
-  left-refused q new e =
-      record { answered = answered-refused said q new out e; first = worked-none said (h * w) a; second = worked-none said (h * w) b }
-
   module _ (e : said ≡ Ok tt) where
     sound : Sound w h wrong (min (min (min (length m) (length out)) (length a)) (length b))
     sound = map-sound k w h wrong _ (by-shortest (min (min (min (length m) (length out)) (length a)) (length b)) refl ∙ e)
-
-    pub accepted-right : wrong ≡ false
-    accepted-right = sound.right
 
     buffers : MapBuffers (head_of k w h) m out a b
     buffers =
@@ -79,10 +65,6 @@ module _ (k w h : ℕ) (wrong : Bool) (m out a b : List ℕ) where
           };
           room = omega (arith, sound.long);
         }
-
-    -- what an accepted call knows of its buffers
-    pub accepted-buffers : (p : Head) → p ≡ head_of k w h → MapBuffers p m out a b
-    accepted-buffers p g = subst (λ (p : Head). MapBuffers p m out a b) (sym g) buffers
 
     -- on acceptance the map, then what stood there before
     pub left-filled : (f : Head → Cell → ℕ) (p : Head) (out' a' b' : List ℕ) → p ≡ head_of k w h → MapFilled p (f p) out out' a a' b b'
@@ -99,11 +81,6 @@ module _ (k w h : ℕ) (wrong : Bool) (m out a b : List ℕ) where
           second = worked-plate said q b b' e l.second;
         }
 
--- what is filled for a map is filled for whatever asks for it
-pub filled-as : {q r : Asked} {p : Head} (m : List ℕ) {out out' a a' b b' : List ℕ} → q ≡ r → MapFilled p (asked_map r p m) out out' a a' b b'
-    → MapFilled p (asked_map q p m) out out' a a' b b'
-filled-as {q} {r} {p} m {out} {out'} {a} {a'} {b} {b'} e n = subst (λ (s : Asked). MapFilled p (asked_map s p m) out out' a a' b b') (sym e) n
-
 -- ---- the volume
 
 pub sum_more : (m : List ℕ) (n : ℕ) → n < length m → sum (take (n + 1) m) ≡ sum (take n m) + get_or m n 0
@@ -112,15 +89,6 @@ sum_more m n h = ap (λ (j : ℕ). sum (take j m)) (add-one n) ∙ ap sum (take-
     last : (l : List ℕ) (r : ℕ) → sum (l ++ (r ∷ [])) ≡ sum l + r
     last [] r = omega arith
     last (x ∷ l) r = omega (arith, last l r)
-
--- the sum of n bytes is at most 255 times n
-pub sum_bound : (m : List ℕ) (n : ℕ) → ((i : ℕ) → get_or m i 0 < 256) → n ≤ length m → sum (take n m) ≤ 255 * n
-sum_bound m zero b h = omega arith
-sum_bound m (suc n) b h = omega (arith, ap (λ (j : ℕ). sum (take j m)) (sym (add-one n)) ∙ sum_more m n h, sum_bound m n b (omega arith), b n)
-
--- a plate of sides that were not refused has no more cells than the largest
-pub area_small : (w h : ℕ) → w ≤ largest_side → h ≤ largest_side → h * w ≤ largest_area
-area_small w h a b = mul-le-mul b a
 
 -- the volume, whatever kind is named
 pub volume-sum : (w h : ℕ) (m : List ℕ) → h * w ≤ length m → sum (take (h * w) m) ≡ volume (head_of 4 w h) m

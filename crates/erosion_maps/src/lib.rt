@@ -15,7 +15,7 @@ use residue_scores::Score;
 fn shortest(relief: usize, out: usize, a: usize, b: usize) -> usize
     ensures { result ≡ min (min (min relief out) a) b }
 {
-    numbers::smaller(numbers::smaller(numbers::smaller(relief, out), a), b)
+    relief.min(out).min(a).min(b)
 }
 
 // Which map of a relief is asked for.
@@ -31,8 +31,7 @@ fn is_wrong(asked: Asked) -> bool
     ensures { result ≡ wrong_number asked }
 {
     match asked {
-        Asked::Erosion(number) => !refusal::is_erosion_number(number),
-        Asked::Residue(number) => !refusal::is_erosion_number(number),
+        Asked::Erosion(number) | Asked::Residue(number) => !refusal::is_erosion_number(number),
         Asked::Scored(_score) => false,
     }
 }
@@ -153,22 +152,14 @@ pub fn score_map(
     answer(Asked::Scored(score), relief, kind, width, height, out, a, b)
 }
 
-fn wide(depth: u8) -> u32
-    ensures { result ≡ depth }
-{
-    depth as u32
-}
-
 // The sum of the first bytes of a relief.
 fn depth_sum(relief: &[u8], count: usize) -> u32
     requires { (count ≤ length relief.now) × (count ≤ largest_area) }
     ensures { result ≡ sum (take count relief.now) }
 {
     let mut total: u32 = 0;
-    let mut n = 0;
-    while n < count {
-        total += wide(relief[n]);
-        n += 1;
+    for depth in &relief[..count] {
+        total += *depth as u32;
     }
     total
 }

@@ -49,7 +49,7 @@ left-silent out out' a a' b b' r n e x y q =
       second = worked-silent b b' n e x.0 y.0 q.second;
     }
 
-listing-silent : (out out' a a' b b' : List ℕ) (r : (Result Extent Refusal)) (n : ℕ) → free (refused n) ≡ false → (x y : Head × List Plunge × ℕ)
+listing-silent : (out out' a a' b b' : List ℕ) (r : Result Extent Refusal) (n : ℕ) → free (refused n) ≡ false → (x y : Head × List Plunge × ℕ)
     → ListAnswered (refused n) x.0 x.1 x.2 out out' a a' b b' r → ListAnswered (refused n) y.0 y.1 y.2 out out' a a' b b' r
 listing-silent out out' a a' b b' r n e x y q =
     record {
@@ -70,7 +70,7 @@ abbrev nothing : ℕ → ℕ
 nothing n = n
 
 module _ (k w h : ℕ) (p : Plate) (e : p ≡ narrow_plate k w h) where
-  pub cell-promise : (m : List ℕ) (t x y t' x' y' : ℕ) (r : (Result Clearance Refusal)) → t' ≡ narrow_byte t → x' ≡ narrow_word x → y' ≡ narrow_word y
+  pub cell-promise : (m : List ℕ) (t x y t' x' y' : ℕ) (r : Result Clearance Refusal) → t' ≡ narrow_byte t → x' ≡ narrow_word x → y' ≡ narrow_word y
       → r ≡ clearance_answer m p.kind p.width p.height t' x' y' → r ≡ clearance_answer m k w h t x y
   cell-promise m t x y t' x' y' r f g i =
       let c : Place = record { level = t; column = x; row = y } in
@@ -130,7 +130,7 @@ module _ (k w h : ℕ) (p : Plate) (e : p ≡ narrow_plate k w h) where
         (λ k w h n. (h * w, tabulated (head_of k w h) (score_of s (head_of k w h) largest_erosion m)))
         (λ v x. Left v x.0 x.1 out out' a a' b b' r) (left-silent out out' a a' b b' r) k w h 0 (λ l o. inl refl) p e 0 refl
 
-    pub list-promise : (r : (Result Extent Refusal)) → ListCall m p.kind p.width p.height out out' a a' b b' r → ListCall m k w h out out' a a' b b' r
+    pub list-promise : (r : Result Extent Refusal) → ListCall m p.kind p.width p.height out out' a a' b b' r → ListCall m k w h out out' a a' b b' r
     list-promise r =
         narrowed {A = ℕ} {X = Head × List Plunge × ℕ} nothing (λ w h n. false)
         (λ k w h n. first_met (trial (short w h (length m ∷ length a ∷ length b ∷ [])) 4 0
@@ -139,7 +139,7 @@ module _ (k w h : ℕ) (p : Plate) (e : p ≡ narrow_plate k w h) where
         (listing-silent out out' a a' b b' r) k w h 0 (λ l o. inl refl) p e 0 refl
 
 -- the volume takes no kind: 4 is one
-pub volume-promise : (m : List ℕ) (w h w' h' : ℕ) (r : (Result ℕ Refusal)) → w' ≡ narrow_word w → h' ≡ narrow_word h
+pub volume-promise : (m : List ℕ) (w h w' h' : ℕ) (r : Result ℕ Refusal) → w' ≡ narrow_word w → h' ≡ narrow_word h
     → r ≡ volume_of m w' h' → r ≡ volume_of m w h
 volume-promise m w h w' h' r f g =
     let p : Plate = record { kind = 4; width = w'; height = h' } in

@@ -40,7 +40,7 @@ tidy-accepts f out a b c ok works room =
     after (file_trials f) _ ok ∙ after (work_trial f a b c ∷ []) (room_for (head_in f) (tidied_plunges f) out) works ∙ room
 
 -- an accepted call that answers with a list
-module _ (p : Head) (qs : List Plunge) (out out' : List ℕ) (r : (Result Extent Refusal)) (v : Verdict) (accepts : v ≡ Ok tt)
+module _ (p : Head) (qs : List Plunge) (out out' : List ℕ) (r : Result Extent Refusal) (v : Verdict) (accepts : v ≡ Ok tt)
     (n : ℕ) (answer : r ≡ list_answer v p qs n) (bytes : out' ≡ written v (encoded p qs) out) where
   answered : r ≡ Ok (record { bytes = file_length p (length qs); plunges = length qs; erosions = n })
   answered = answer ∙ ap (λ (u : Verdict). list_answer u p qs n) accepts

@@ -97,7 +97,7 @@ listing-refused v q p qs n out a b e =
       second = worked-none v (area p) b;
     }
 
-pub listing-done : (v : Verdict) (p : Head) (qs : List Plunge) (n : ℕ) (out out' a a' b b' : List ℕ) (r : (Result Extent Refusal))
+pub listing-done : (v : Verdict) (p : Head) (qs : List Plunge) (n : ℕ) (out out' a a' b b' : List ℕ) (r : Result Extent Refusal)
     → v ≡ first_met (room_for p qs out)
     → r ≡ list_answer (first_met (room_for p qs out)) p qs n
     → out' ≡ written (first_met (room_for p qs out)) (encoded p qs) out → PlateOnly p a a' → PlateOnly p b b'
@@ -213,7 +213,7 @@ module _ (f : List ℕ) (j : Job) (w : JobOf f j) where
     pub works-long : area j.head ≤ n → short (head_in f).width (head_in f).height works ≡ false
     works-long l = long_of works (long-three j.head.width j.head.height (length a) (length b) (length c) n e l)
 
-    pub tidy-done : area j.head ≤ n → (out' a' b' c' : List ℕ) (r : (Result Extent Refusal)) → Mapped j.head (drawn j.head.kind (plunges_up_to j.plunges f)) c c'
+    pub tidy-done : area j.head ≤ n → (out' a' b' c' : List ℕ) (r : Result Extent Refusal) → Mapped j.head (drawn j.head.kind (plunges_up_to j.plunges f)) c c'
         → ListedInto j.head c' out out' r → PlateOnly j.head a a' → PlateOnly j.head b b' → TidyCall f out out' a a' b b' c c' r
     tidy-done l out' a' b' c' r m d x y =
         record {
@@ -275,7 +275,7 @@ module _ (m : List ℕ) (k w h : ℕ) (out a b : List ℕ) (n : ℕ) (v : Verdic
         second = omega (arith, s.long);
       })
 
-  pub list_done : v ≡ Ok tt → (p : Head) → p ≡ head_of k w h → (out' a' b' : List ℕ) (r : (Result Extent Refusal)) → ListedInto p m out out' r
+  pub list_done : v ≡ Ok tt → (p : Head) → p ≡ head_of k w h → (out' a' b' : List ℕ) (r : Result Extent Refusal) → ListedInto p m out out' r
       → PlateOnly p a a' → PlateOnly p b b' → ListCall m k w h out out' a a' b b' r
   list_done l p i out' a' b' r d x y =
       let into : ListedInto (head_of k w h) m out out' r = subst (λ (q : Head). ListedInto q m out out' r) i d in

@@ -47,7 +47,7 @@ abbrev pub list_verdict : List ℕ → ℕ → ℕ → ℕ → List ℕ → List
 list_verdict m k w h out a b = first_met (list_trials m k w h a b ++ room_for (head_of k w h) (listed m k w h) out)
 
 -- a call that answers with a list, for which some rungs were climbed: the answer, the file's bytes, two work buffers
-pub record ListAnswered (verdict : Verdict) (p : Head) (qs : List Plunge) (rungs : ℕ) (out out' a a' b b' : List ℕ) (r : (Result Extent Refusal)) : Type 0 where
+pub record ListAnswered (verdict : Verdict) (p : Head) (qs : List Plunge) (rungs : ℕ) (out out' a a' b b' : List ℕ) (r : Result Extent Refusal) : Type 0 where
   pub answer : r ≡ list_answer verdict p qs rungs
   pub bytes : out' ≡ written verdict (encoded p qs) out
   pub first : Worked verdict (area p) a a'
@@ -72,6 +72,6 @@ work_trial f a b c = plate_trial f (length a ∷ length b ∷ length c ∷ [])
 abbrev pub tidy_verdict : List ℕ → List ℕ → List ℕ → List ℕ → List ℕ → Verdict
 tidy_verdict f out a b c = first_met (file_trials f ++ (work_trial f a b c ∷ room_for (head_in f) (tidied_plunges f) out))
 
-pub record TidyCall (f out out' a a' b b' c c' : List ℕ) (r : (Result Extent Refusal)) : Type 0 where
+pub record TidyCall (f out out' a a' b b' c c' : List ℕ) (r : Result Extent Refusal) : Type 0 where
   pub list : ListAnswered (tidy_verdict f out a b c) (head_in f) (tidied_plunges f) (erosion_count (head_in f) (relief f)) out out' a a' b b' r
   pub third : Worked (tidy_verdict f out a b c) (area (head_in f)) c c'

@@ -29,7 +29,7 @@ pub fn too_short() -> Refusal
 pub fn shortest(a: usize, b: usize, c: usize) -> usize
     ensures { result ≡ min (min a b) c }
 {
-    numbers::smaller(numbers::smaller(a, b), c)
+    a.min(b).min(c)
 }
 
 // The relief that a file draws, into out. The file's refusals, then 4.

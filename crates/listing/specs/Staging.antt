@@ -26,7 +26,7 @@ abbrev pub KeptPlunges : Head → List ℕ → ℕ → List Plunge → Type 0
 KeptPlunges p kept end qs = end ≤ stage_length → take (end - place p 0) (drop (place p 0) kept) ≡ plunge_fields (size_of p) qs
 
 -- the listing of a relief, answered and written to an output
-pub record ListedInto (p : Head) (m old new : List ℕ) (r : (Result Extent Refusal)) : Type 0 where
+pub record ListedInto (p : Head) (m old new : List ℕ) (r : Result Extent Refusal) : Type 0 where
   pub answer : r ≡ list_answer (room_verdict p m old) p (listing p largest_erosion m) (erosion_count p m)
   pub bytes : new ≡ written (room_verdict p m old) (encoded p (listing p largest_erosion m)) old
 

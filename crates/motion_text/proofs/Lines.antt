@@ -66,13 +66,13 @@ module _ (table f : List ℕ) (s : Scale) (i : ℕ) where
   pub lines-asks : (m : Motions) (old : List ℕ) (at : ℕ) → at + lines_room ≤ length old → at + length (motion_lines m) ≤ length old
   lines-asks m old at h = omega (arith, lines-length m)
 
-  pub lines-put : (a : (Result Motions Refusal)) (m : Motions) (old new : List ℕ) (at r : ℕ) → a ≡ motions_in table f i s → a ≡ Ok m
+  pub lines-put : (a : Result Motions Refusal) (m : Motions) (old new : List ℕ) (at r : ℕ) → a ≡ motions_in table f i s → a ≡ Ok m
       → Puts old at (motion_lines m) new r → Puts old at (lines_at table f s i) new r × (r ≤ at + lines_room)
   unfolding lines_at
   lines-put a m old new at r e g p =
       (subst (λ (xs : List ℕ). Puts old at xs new r) (ap answer_lines (sym g ∙ e)) p, omega (arith, p.1, lines-length m))
 
-  pub lines_none : (old : List ℕ) (at : ℕ) (a : (Result Motions Refusal)) → a ≡ motions_in table f i s → answer_lines a ≡ []
+  pub lines_none : (old : List ℕ) (at : ℕ) (a : Result Motions Refusal) → a ≡ motions_in table f i s → answer_lines a ≡ []
       → Puts old at (lines_at table f s i) old at × (at ≤ at + lines_room)
   unfolding lines_at
   lines_none old at a e n =

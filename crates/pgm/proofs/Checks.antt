@@ -38,7 +38,7 @@ first-append (t ∷ xs) ys = go t.met (first-append xs ys)
     go false e = e
 
 -- the numbers of a header, checked one by one
-pub numbers-checked : (h : Header) (w y m a r : (Result ⊤ PictureFault)) → w ≡ first_fault (number_trials Width largest_side h.width)
+pub numbers-checked : (h : Header) (w y m a r : Result ⊤ PictureFault) → w ≡ first_fault (number_trials Width largest_side h.width)
     → y ≡ first_fault (number_trials Height largest_side h.height) → a ≡ first_of w y → m ≡ first_fault (number_trials Maxval largest_sample h.maxval)
     → r ≡ first_of a m → r ≡ first_fault (numbers_trials h)
 numbers-checked h w y m a r ew ey ea em er =
@@ -71,11 +71,11 @@ module _ (f : List ℕ) (first needed most : ℕ) where
 
 -- ---- a picture without fault
 
-passed-both : (b : Bool) (x : PictureFault) (c : (Result ⊤ PictureFault)) → cond b (Err x) c ≡ Ok tt → (b ≡ false) × (c ≡ Ok tt)
+passed-both : (b : Bool) (x : PictureFault) (c : Result ⊤ PictureFault) → cond b (Err x) c ≡ Ok tt → (b ≡ false) × (c ≡ Ok tt)
 passed-both true x c e = let z : ◌≡◌ {A = ℕ} 0 1 = cc in absurd (omega arith)
 passed-both false x c e = (refl, e)
 
-first-of-passed : (a b : (Result ⊤ PictureFault)) → first_of a b ≡ Ok tt → (a ≡ Ok tt) × (b ≡ Ok tt)
+first-of-passed : (a b : Result ⊤ PictureFault) → first_of a b ≡ Ok tt → (a ≡ Ok tt) × (b ≡ Ok tt)
 first-of-passed (Ok _) b e = (refl, e)
 first-of-passed (Err x) b e = let z : ◌≡◌ {A = ℕ} 0 1 = cc in absurd (omega arith)
 
@@ -125,7 +125,7 @@ passed-sized f h l e =
     let p = passed-lies f h e in
     record { width_small = p.width_small; height-small = p.height-small; end-small = omega (arith, p.inside, l) }
 
-answer-passed : (c : (Result ⊤ PictureFault)) (q p : Picture) → answer_of c q ≡ Ok p → (c ≡ Ok tt) × (q ≡ p)
+answer-passed : (c : Result ⊤ PictureFault) (q p : Picture) → answer_of c q ≡ Ok p → (c ≡ Ok tt) × (q ≡ p)
 answer-passed (Ok _) q p e = (refl, cc)
 answer-passed (Err x) q p e = let z : ◌≡◌ {A = ℕ} 0 1 = cc in absurd (omega arith)
 
@@ -147,23 +147,23 @@ module _ (f : List ℕ) (h : Header) where
   pub samples-ended : length f ≤ h.maxval.end → Err (NoSpace h.maxval.end) ≡ first_fault (sample_trials f h)
   samples-ended l = no-space (ap is_white (get_or-eq_default f 0 l))
 
-  pub samples-raster : (b : Bool) (n : ℕ) (r : (Result ⊤ PictureFault)) → b ≡ is_white (get_or f h.maxval.end 0) → b ≡ true → n ≡ area h
+  pub samples-raster : (b : Bool) (n : ℕ) (r : Result ⊤ PictureFault) → b ≡ is_white (get_or f h.maxval.end 0) → b ≡ true → n ≡ area h
       → r ≡ first_fault (raster_trials f (h.maxval.end + 1) n h.maxval.value) → r ≡ first_fault (sample_trials f h)
   samples-raster b n r e g a x =
       let w : is_white (get_or f h.maxval.end 0) ≡ true = sym e ∙ g in
       x ∙ ap (λ (k : ℕ). first_fault (raster_trials f (h.maxval.end + 1) k h.maxval.value)) a ∙ rw w
 
-  pub all-checked : (a b r : (Result ⊤ PictureFault)) → a ≡ first_fault (header_trials f h) → b ≡ first_fault (sample_trials f h) → r ≡ first_of a b
+  pub all-checked : (a b r : Result ⊤ PictureFault) → a ≡ first_fault (header_trials f h) → b ≡ first_fault (sample_trials f h) → r ≡ first_of a b
       → r ≡ first_fault (picture_trials f h)
   all-checked a b r ea eb er = er ∙ ap₂ first_of ea eb ∙ sym (first-append (header_trials f h) (sample_trials f h))
 
-  pub answered : (r : (Result ⊤ PictureFault)) (p : Picture) (a : (Result Picture PictureFault)) → h ≡ header_in f → r ≡ first_fault (picture_trials f h) → p ≡ picture_of h → a ≡ answer_of r p
+  pub answered : (r : Result ⊤ PictureFault) (p : Picture) (a : Result Picture PictureFault) → h ≡ header_in f → r ≡ first_fault (picture_trials f h) → p ≡ picture_of h → a ≡ answer_of r p
       → a ≡ picture_answer f
   answered r p a eh er ep ea =
       ea ∙ ap₂ answer_of er ep ∙ ap (λ (k : Header). answer_of (first_fault (picture_trials f k)) (picture_of k)) eh
 
-  pub faulty : (r : (Result ⊤ PictureFault)) (x : PictureFault) → h ≡ header_in f → r ≡ first_fault (picture_trials f h) → r ≡ Err x → Err x ≡ picture_answer f
-  faulty r x eh er e = answered r (picture_of h) (Err x) eh er refl (sym (ap (λ (k : (Result ⊤ PictureFault)). answer_of k (picture_of h)) e))
+  pub faulty : (r : Result ⊤ PictureFault) (x : PictureFault) → h ≡ header_in f → r ≡ first_fault (picture_trials f h) → r ≡ Err x → Err x ≡ picture_answer f
+  faulty r x eh er e = answered r (picture_of h) (Err x) eh er refl (sym (ap (λ (k : Result ⊤ PictureFault). answer_of k (picture_of h)) e))
 
 pub header_read : (f : List ℕ) (a b c : Number) → a ≡ number_after f 2 → b ≡ number_after f a.end → c ≡ number_after f b.end
     → record { width = a; height = b; maxval = c } ≡ header_in f

@@ -56,11 +56,11 @@ module _ (f : List ℕ) (kind : ℕ) (p : Picture) (i : Lies f p) where
 
 -- by what reading gave
 module _ (f : List ℕ) (kind : ℕ) (old : List ℕ) where
-  pub scan-found : (new : List ℕ) (a : (Result Picture PictureFault)) (p : Picture) (r : Result ℕ CopyFault) → a ≡ picture_answer f → a ≡ Ok p
+  pub scan-found : (new : List ℕ) (a : Result Picture PictureFault) (p : Picture) (r : Result ℕ CopyFault) → a ≡ picture_answer f → a ≡ Ok p
       → Copies (copy_answer (scan_of f kind p) old) (copied (scan_of f kind p) old) new r → Copies (scan_answer f kind old) (scan_written f kind old) new r
   scan-found new a p r e g c = subst (λ x. Copies (scan_answer_of f kind x old) (scan_written_of f kind x old) new r) (sym g ∙ e) c
 
-  pub scan-faulty : (a : (Result Picture PictureFault)) (x : PictureFault) → a ≡ picture_answer f → a ≡ Err x
+  pub scan-faulty : (a : Result Picture PictureFault) (x : PictureFault) → a ≡ picture_answer f → a ≡ Err x
       → Copies (scan_answer f kind old) (scan_written f kind old) old (Err (Unread x))
   scan-faulty a x e g =
       subst (λ y. Copies (scan_answer_of f kind y old) (scan_written_of f kind y old) old (Err (Unread x))) (sym g ∙ e) (record { answers = refl; writes = refl })

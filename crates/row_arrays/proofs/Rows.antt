@@ -10,16 +10,13 @@ use lib.IntN.{pos}
 use lib.ListN.{length, get_or, replicate, length-replicate, get_or-replicate, get_or-eq_default}
 use lib.Seq.{ext_get_or}
 use Rattle.geometry.specs.declared.Kind.{Kind}
-use Rattle.geometry.specs.declared.Head.{Head}
 use Rattle.geometry.specs.Plane.{gap}
 use Rattle.buffers.specs.Fill.{Filled}
-use Rattle.buffers.proofs.Fill.{filled-as}
+use Rattle.buffers.proofs.Fill.{filled-as, filled-copied}
 use Rattle.row_arrays.specs.declared.Seeds.TheVariants.{Numbers}
 use Rattle.refusal.specs.Refusals.{largest_side}
-use Rattle.refusal.specs.Sides.{Sides}
 use Rattle.row_arrays.specs.Start.{wall_seed, seed}
-use Rattle.row_arrays.specs.Asked.{Held}
-use Rattle.row_arrays.specs.Rows.{margin, row_places, widest_row, row_reach, Margins, Row, propagated_at, Line, Widened, joined_row, Merged}
+use Rattle.row_arrays.specs.Rows.{margin, row_places, widest_row, row_reach, Margins, Row, propagated_at, Line, Widened, joined_row, with_columns, Merged}
 
 -- ---- the numbers of row arrays
 
@@ -33,9 +30,6 @@ pub record RowFits : Type 0 where
 
 pub row_fits : RowFits
 row_fits = record { held = omega arith; holds = omega arith; reached = omega arith; above = omega arith }
-
-pub plate-held : (p : Head) → Sides p → Held p
-plate-held p s = record { wide = s.wide; narrow = omega (arith, s.narrow, row_fits.holds); tall = s.tall }
 
 -- ---- margins
 
@@ -216,23 +210,28 @@ widened_twice w s row row' spare spare' m n h g k =
 -- ---- the row beside
 
 -- an array with the columns of another is the other: both have the same zeros
-pub copied : (w : ℕ) (src dst dst' : List ℕ) → Margins w src → Margins w dst → Filled (λ n. get_or src n 0) margin (margin + w) dst dst' → dst' ≡ src
-copied w src dst dst' s d h =
+pub copied : (w : ℕ) (src dst dst' : List ℕ) → w ≤ widest_row → Margins w src → Margins w dst → dst' ≡ with_columns w src dst → dst' ≡ src
+copied w src dst dst' narrow s d e =
     ext_get_or 0 dst' src (h.same ∙ d.size ∙ sym s.size) (λ n l. at_place n (dec_le margin n) (dec_le (margin + w) n))
   where
+    h : Filled (λ n. get_or src n 0) margin (margin + w) dst dst'
+    h =
+        subst (Filled (λ n. get_or src n 0) margin (margin + w) dst) (sym e)
+        (filled-copied _ margin w (margin + w) dst _ refl (omega (arith, d.size)) src margin w refl refl (omega (arith, s.size)) (λ n l. refl))
+
     at_place : (n : ℕ) → Dec (margin ≤ n) → Dec (margin + w ≤ n) → get_or dst' n 0 ≡ get_or src n 0
     at_place n (no a) b = h.under n (omega arith) ∙ d.under n (omega arith) ∙ sym (s.under n (omega arith))
     at_place n (yes a) (yes b) = h.over n b ∙ d.over n b ∙ sym (s.over n b)
     at_place n (yes a) (no b) = h.inside n a (omega arith)
 
 -- the joined row, stored and left as the next row's row beside
-pub merged : (kd : Kind) (w from : ℕ) (beside beside' row row' out out' : List ℕ) → Margins w beside → Margins w row
+pub merged : (kd : Kind) (w from : ℕ) (beside beside' row row' out out' : List ℕ) → w ≤ widest_row → Margins w beside → Margins w row
     → Filled (joined_row kd beside row) margin (margin + w) row row' → Filled (λ n. get_or row' (margin + (n - from)) 0) from (from + w) out out'
-    → Filled (λ n. get_or row' n 0) margin (margin + w) beside beside' → Merged kd w from beside beside' row row' out out'
-merged kd w from beside beside' row row' out out' m z r o b =
+    → beside' ≡ with_columns w row' beside → Merged kd w from beside beside' row row' out out'
+merged kd w from beside beside' row row' out out' narrow m z r o b =
     record {
       row_is = r;
-      beside-is = copied w row' beside beside' (margins-filled (joined_row kd beside row) w row row' z r) m b;
+      beside-is = copied w row' beside beside' narrow (margins-filled (joined_row kd beside row) w row row' z r) m b;
       out-is = filled-as (λ n. get_or row' (margin + (n - from)) 0) (λ n. joined_row kd beside row (margin + (n - from))) from (from + w) out out' o
           (λ n h l. r.inside (margin + (n - from)) (omega arith) (omega arith));
     }

@@ -1,5 +1,5 @@
 -- Serves proofs: a row of cells held in an array, column x at place margin + x, and what the passes along it and from the row beside leave.
-use Rattle.std.specs.Prelude.{◌≡◌, ◌⊎◌, List, ℕ, ◌+◌, ◌-◌, ◌≤◌, ◌<◌, max, pos, length, get_or}
+use Rattle.std.specs.Prelude.{◌≡◌, ◌⊎◌, List, ◌++◌, ℕ, ◌+◌, ◌-◌, ◌≤◌, ◌<◌, max, pos, length, get_or, take, drop}
 use Rattle.geometry.specs.declared.Kind.{Kind}
 use Rattle.geometry.specs.declared.Kind.TheVariants.{Diamond, Square}
 use Rattle.geometry.specs.Plane.{gap}
@@ -55,6 +55,10 @@ highest_beside Square beside n = max (get_or beside n 0) (max (get_or beside (n 
 -- a row's number with the row beside counted too
 abbrev pub joined_row : Kind → List ℕ → List ℕ → ℕ → ℕ
 joined_row kd beside row n = max (get_or row n 0) (highest_beside kd beside n - 1)
+
+-- an array with w columns of another in the place of its own
+abbrev pub with_columns : {A : Type 0} → ℕ → List A → List A → List A
+with_columns w row beside = take margin beside ++ (take w (drop margin row) ++ drop w (drop margin beside))
 
 -- the joined row, in its array, in the map, and in place of the row beside
 pub record Merged (kd : Kind) (w from : ℕ) (beside beside' row row' out out' : List ℕ) : Type 0 where

@@ -3,7 +3,7 @@
 
 ghost use Rattle.std.specs.Prelude.{◌≡◌, cond, ◌+◌, ◌-◌, ◌*◌, ◌≤◌, ◌<◌, max, eqb, length, get_or};
 ghost use Rattle.buffers.specs.Fill.{Filled};
-ghost use Rattle.row_arrays.specs.Rows.{margin, row_places, widest_row, row_reach, Row, propagated_at, Widened, highest_beside, joined_row, Merged};
+ghost use Rattle.row_arrays.specs.Rows.{margin, row_places, widest_row, row_reach, Row, propagated_at, Widened, highest_beside, joined_row, with_columns, Merged};
 ghost use Rattle.row_arrays.specs.Start.{seed, start};
 ghost use Rattle.row_arrays.specs.Asked.{Loadable, RowPair, Mergeable};
 
@@ -49,10 +49,8 @@ pub fn load_run(
     ensures { Filled (λ n. max (seed seeds (get_or map.now (from + (n - margin)) 0)) floor) margin (margin + width)
         row.old row.new }
 {
-    let mut n = MARGIN;
-    while n < MARGIN + width {
-        row[n] = window::higher(seed_of(seeds, map[from + (n - MARGIN)]), floor);
-        n += 1;
+    for n in MARGIN..MARGIN + width {
+        row[n] = seed_of(seeds, map[from + (n - MARGIN)]).max(floor);
     }
 }
 
@@ -61,13 +59,7 @@ fn floor_of(y: usize, height: usize, edge: u8) -> u8
     requires { y < height }
     ensures { result ≡ cond (eqb y 0) edge (cond (eqb (y + 1) height) edge 0) }
 {
-    if y == 0 {
-        return edge;
-    }
-    if y + 1 == height {
-        return edge;
-    }
-    0
+    if y == 0 || y + 1 == height { edge } else { 0 }
 }
 
 // The numbers that a row of the plate starts from.
@@ -76,11 +68,11 @@ pub fn load_row(head: Head, seeds: Seeds, map: &[u8], y: usize, row: &mut [u8; R
     ensures { Row (λ x. start head (seed seeds) map.now x y) head.width row.new }
 {
     let width = head.width as usize;
-    let edge = window::less(seed_of(seeds, 0), 1);
+    let edge = seed_of(seeds, 0).saturating_sub(1);
     let floor = floor_of(y, head.height as usize, edge);
     load_run(seeds, map, y * width, width, floor, row);
-    row[MARGIN] = window::higher(row[MARGIN], edge);
-    row[MARGIN + width - 1] = window::higher(row[MARGIN + width - 1], edge);
+    row[MARGIN] = row[MARGIN].max(edge);
+    row[MARGIN + width - 1] = row[MARGIN + width - 1].max(edge);
 }
 
 // ---- along a row
@@ -91,16 +83,8 @@ fn propagate_step(src: &[u8; ROW_PLACES], dst: &mut [u8; ROW_PLACES], step: usiz
     ensures { Filled (propagated_at src.now step) margin (margin + width) dst.old dst.new }
 {
     let fall = step as u8;
-    let mut n = MARGIN;
-    while n < MARGIN + width {
-        dst[n] = window::higher(
-            src[n],
-            window::higher(
-                window::less(src[n - step], fall),
-                window::less(src[n + step], fall),
-            ),
-        );
-        n += 1;
+    for n in MARGIN..MARGIN + width {
+        dst[n] = src[n].max(src[n - step].max(src[n + step]).saturating_sub(fall));
     }
 }
 
@@ -138,7 +122,7 @@ fn highest_beside(kind: Kind, beside: &[u8; ROW_PLACES], n: usize) -> u8
 {
     match kind {
         Kind::Diamond => beside[n],
-        Kind::Square => window::higher(beside[n], window::higher(beside[n - 1], beside[n + 1])),
+        Kind::Square => beside[n].max(beside[n - 1].max(beside[n + 1])),
     }
 }
 
@@ -147,10 +131,8 @@ fn join_row(kind: Kind, beside: &[u8; ROW_PLACES], row: &mut [u8; ROW_PLACES], w
     requires { (width ≤ widest_row) × (length row.old ≡ row_places) }
     ensures { Filled (joined_row kind beside.now row.old) margin (margin + width) row.old row.new }
 {
-    let mut n = MARGIN;
-    while n < MARGIN + width {
-        row[n] = window::higher(row[n], window::less(highest_beside(kind, beside, n), 1));
-        n += 1;
+    for n in MARGIN..MARGIN + width {
+        row[n] = row[n].max(highest_beside(kind, beside, n).saturating_sub(1));
     }
 }
 
@@ -159,23 +141,15 @@ fn store_row(row: &[u8; ROW_PLACES], out: &mut [u8], from: usize, width: usize)
     requires { (from + width ≤ length out.old) × (width ≤ widest_row) }
     ensures { Filled (λ n. get_or row.now (margin + (n - from)) 0) from (from + width) out.old out.new }
 {
-    let mut n = from;
-    while n < from + width {
-        out[n] = row[MARGIN + (n - from)];
-        n += 1;
-    }
+    out[from..from + width].copy_from_slice(&row[MARGIN..MARGIN + width]);
 }
 
-// A row's columns to those of another.
-fn copy_row(row: &[u8; ROW_PLACES], beside: &mut [u8; ROW_PLACES], width: usize)
-    requires { (width ≤ widest_row) × (length beside.old ≡ row_places) }
-    ensures { Filled (λ n. get_or row.now n 0) margin (margin + width) beside.old beside.new }
+// A row's columns to those of another, whatever the numbers' width.
+pub fn copy_row<T: Copy>(row: &[T], beside: &mut [T], width: usize)
+    requires { (width ≤ widest_row) × (length row.now ≡ row_places) × (length beside.old ≡ row_places) }
+    ensures { beside.new ≡ with_columns width row.now beside.old }
 {
-    let mut n = MARGIN;
-    while n < MARGIN + width {
-        beside[n] = row[n];
-        n += 1;
-    }
+    beside[MARGIN..MARGIN + width].copy_from_slice(&row[MARGIN..MARGIN + width]);
 }
 
 // Joins a row with the row beside, stores it, and leaves it as the next row's row beside.

@@ -18,7 +18,7 @@ use Rattle.theory.proofs.Plate.{at-cell}
 use Rattle.buffers.specs.Fill.{Filled, PlateOnly}
 use Rattle.buffers.proofs.Fill.{row_under, mapped-bytes}
 use Rattle.buffers.proofs.Rooms.{row_room, cell_room}
-use Rattle.row_arrays.specs.Rows.{margin, Margins, Row, Widened, joined_row}
+use Rattle.row_arrays.specs.Rows.{margin, Margins, Row, Widened, joined_row, with_columns}
 use Rattle.row_arrays.specs.Asked.{Held}
 use Rattle.row_arrays.proofs.Rows.{zeros, row-zeros, margins-filled, line-start, copied}
 use Rattle.wide_rows.specs.Wide.{wide_numbers, wide_reach}
@@ -45,14 +45,14 @@ module _ (p : Head) (m : List ℕ) (y : ℕ) (here : y < p.height) (held : Held 
       → Row (λ x. get_or (wide_numbers m) (y * p.width + x) 0) p.width row₁ → Widened p.width 1 wide_reach row₁ row₂ spare'
       → Filled (joined_row p.kind beside row₂) margin (margin + p.width) row₂ row'
       → Filled (λ n. marked (get_or row' (margin + (n - y * p.width)) 0) (get_or out n 0)) (y * p.width) (y * p.width + p.width) out out'
-      → Filled (λ n. get_or row' n 0) margin (margin + p.width) beside beside' → RowMarked p m y row' spare' beside beside' out out'
+      → beside' ≡ with_columns p.width row' beside → RowMarked p m y row' spare' beside beside' out out'
   row-marked row₁ row₂ row' spare' beside beside' out out' b r l j k c =
       record {
         along = row₂;
         along-is = row-along row₁ row₂ spare' r l;
         row_is = j;
         spare-margins = l.spare-margins;
-        beside-is = copied p.width row' beside beside' (margins-filled _ p.width row₂ row' l.row-margins j) b c;
+        beside-is = copied p.width row' beside beside' held.narrow (margins-filled _ p.width row₂ row' l.row-margins j) b c;
         marks = k;
       }
 

@@ -26,10 +26,8 @@ fn mark_run(row: &[u16; ROW_PLACES], out: &mut [u8], from: usize, width: usize)
     ensures { Filled (λ n. marked (get_or row.now (margin + (n - from)) 0) (get_or out.old n 0))
         from (from + width) out.old out.new }
 {
-    let mut n = from;
-    while n < from + width {
+    for n in from..from + width {
         out[n] = mark_of(row[MARGIN + (n - from)], out[n]);
-        n += 1;
     }
 }
 
@@ -53,7 +51,7 @@ fn mark_row(
     wide_rows::propagate_row(row, spare, width);
     wide_rows::join_row(kind, beside, row, width);
     mark_run(row, out, y * width, width);
-    wide_rows::copy_row(row, beside, width);
+    row_arrays::copy_row(row, beside, width);
 }
 
 // Every row, each with the rows above it.
@@ -65,10 +63,8 @@ fn mark_down(head: Head, map: &[u8], out: &mut [u8])
     let mut spare = [0u16; ROW_PLACES];
     let mut above = [0u16; ROW_PLACES];
     let height = head.height as usize;
-    let mut y = 0;
-    while y < height {
+    for y in 0..height {
         mark_row(head, map, y, &mut row, &mut spare, &mut above, out);
-        y += 1;
     }
 }
 
@@ -80,9 +76,8 @@ fn mark_up(head: Head, map: &[u8], out: &mut [u8])
     let mut row = [0u16; ROW_PLACES];
     let mut spare = [0u16; ROW_PLACES];
     let mut below = [0u16; ROW_PLACES];
-    let mut y = head.height as usize;
-    while 0 < y {
-        y -= 1;
+    let height = head.height as usize;
+    for y in (0..height).rev() {
         mark_row(head, map, y, &mut row, &mut spare, &mut below, out);
     }
 }

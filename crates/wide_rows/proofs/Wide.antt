@@ -8,7 +8,7 @@ use lib.ListN.{length, get_or, drop, set, length-set, length-append, length-drop
 use lib.Seq.{ext_get_or, get_or-set_same, get_or-set_other, get_or-append-add, get_or-drop}
 use Rattle.geometry.specs.declared.Kind.{Kind}
 use Rattle.buffers.specs.Fill.{Filled}
-use Rattle.row_arrays.specs.Rows.{margin, widest_row, Margins, joined_row}
+use Rattle.row_arrays.specs.Rows.{margin, widest_row, Margins, joined_row, with_columns}
 use Rattle.row_arrays.proofs.Rows.{merged}
 use Rattle.wide_rows.specs.Wide.{wide_map, wide_numbers, wide_wall, wide_reach, WideFilled, WideMerged}
 
@@ -218,12 +218,12 @@ wide-bytes ns old new room h = ext_get_or 0 new (wide_map ns ++ drop (length (wi
 -- ---- the row beside
 
 -- the joined row, stored and left as the next row's row beside
-pub wide-merged : (kd : Kind) (w from : ℕ) (beside beside' row row' out out' : List ℕ) → Margins w beside → Margins w row → 2 * (from + w) ≤ length out
+pub wide-merged : (kd : Kind) (w from : ℕ) (beside beside' row row' out out' : List ℕ) → w ≤ widest_row → Margins w beside → Margins w row → 2 * (from + w) ≤ length out
     → Filled (joined_row kd beside row) margin (margin + w) row row' → WideFilled (λ n. get_or row' (margin + (n - from)) 0) from (from + w) out out'
-    → Filled (λ n. get_or row' n 0) margin (margin + w) beside beside' → WideMerged kd w from beside beside' row row' out out'
-wide-merged kd w from beside beside' row row' out out' m z room r o b =
+    → beside' ≡ with_columns w row' beside → WideMerged kd w from beside beside' row row' out out'
+wide-merged kd w from beside beside' row row' out out' narrow m z room r o b =
     record {
-      numbers = merged kd w from beside beside' row row' (wide_numbers out) (wide_numbers out') m z r
+      numbers = merged kd w from beside beside' row row' (wide_numbers out) (wide_numbers out') narrow m z r
           (wide-filled (λ n. get_or row' (margin + (n - from)) 0) from (from + w) out out' room o) b;
       same = o.same;
       over = o.over;

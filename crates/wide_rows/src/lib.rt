@@ -14,20 +14,11 @@ use row_arrays::{MARGIN, ROW_PLACES};
 // The number of a wall, from which distances are taken off.
 pub const WIDE_WALL: u16 = 65535;
 
-// ---- numbers of 16 bits
-
 // The higher of two numbers.
 pub fn higher(a: u16, b: u16) -> u16
     ensures { result ≡ max a b }
 {
-    if b < a { a } else { b }
-}
-
-// The difference of two numbers, 0 at least.
-fn less(a: u16, b: u16) -> u16
-    ensures { result ≡ a - b }
-{
-    if b < a { a - b } else { 0 }
+    a.max(b)
 }
 
 // ---- the start
@@ -52,10 +43,8 @@ fn load_seeds(
     ensures { Filled (λ n. max (wall_number wide_wall level (get_or relief.now (from + (n - margin)) 0)) floor)
         margin (margin + width) row.old row.new }
 {
-    let mut n = MARGIN;
-    while n < MARGIN + width {
-        row[n] = higher(seed_of(level, relief[from + (n - MARGIN)]), floor);
-        n += 1;
+    for n in MARGIN..MARGIN + width {
+        row[n] = seed_of(level, relief[from + (n - MARGIN)]).max(floor);
     }
 }
 
@@ -64,13 +53,7 @@ fn floor_of(y: usize, height: usize, edge: u16) -> u16
     requires { y < height }
     ensures { result ≡ cond (eqb y 0) edge (cond (eqb (y + 1) height) edge 0) }
 {
-    if y == 0 {
-        return edge;
-    }
-    if y + 1 == height {
-        return edge;
-    }
-    0
+    if y == 0 || y + 1 == height { edge } else { 0 }
 }
 
 // The numbers that a row of the plate starts from, for the walls of a level.
@@ -79,11 +62,11 @@ pub fn load_walls(head: Head, level: u8, relief: &[u8], y: usize, row: &mut [u16
     ensures { Row (λ x. start head (wall_number wide_wall level) relief.now x y) head.width row.new }
 {
     let width = head.width as usize;
-    let edge = less(seed_of(level, 0), 1);
+    let edge = seed_of(level, 0).saturating_sub(1);
     let floor = floor_of(y, head.height as usize, edge);
     load_seeds(level, relief, y * width, width, floor, row);
-    row[MARGIN] = higher(row[MARGIN], edge);
-    row[MARGIN + width - 1] = higher(row[MARGIN + width - 1], edge);
+    row[MARGIN] = row[MARGIN].max(edge);
+    row[MARGIN + width - 1] = row[MARGIN + width - 1].max(edge);
 }
 
 // A stretch of a map of two bytes a number.
@@ -91,11 +74,9 @@ pub fn load_numbers(map: &[u8], from: usize, width: usize, row: &mut [u16; ROW_P
     requires { (2 * (from + width) ≤ length map.now) × (width ≤ widest_row) × Margins width row.old }
     ensures { Row (λ x. get_or (wide_numbers map.now) (from + x) 0) width row.new }
 {
-    let mut n = MARGIN;
-    while n < MARGIN + width {
+    for n in MARGIN..MARGIN + width {
         let at = 2 * (from + (n - MARGIN));
         row[n] = numbers::of_bytes(map[at], map[at + 1]);
-        n += 1;
     }
 }
 
@@ -107,13 +88,8 @@ fn propagate_step(src: &[u16; ROW_PLACES], dst: &mut [u16; ROW_PLACES], step: us
     ensures { Filled (propagated_at src.now step) margin (margin + width) dst.old dst.new }
 {
     let fall = step as u16;
-    let mut n = MARGIN;
-    while n < MARGIN + width {
-        dst[n] = higher(
-            src[n],
-            higher(less(src[n - step], fall), less(src[n + step], fall)),
-        );
-        n += 1;
+    for n in MARGIN..MARGIN + width {
+        dst[n] = src[n].max(src[n - step].max(src[n + step]).saturating_sub(fall));
     }
 }
 
@@ -152,7 +128,7 @@ pub fn highest_beside(kind: Kind, beside: &[u16; ROW_PLACES], n: usize) -> u16
 {
     match kind {
         Kind::Diamond => beside[n],
-        Kind::Square => higher(beside[n], higher(beside[n - 1], beside[n + 1])),
+        Kind::Square => beside[n].max(beside[n - 1].max(beside[n + 1])),
     }
 }
 
@@ -161,10 +137,8 @@ pub fn join_row(kind: Kind, beside: &[u16; ROW_PLACES], row: &mut [u16; ROW_PLAC
     requires { (width ≤ widest_row) × (length row.old ≡ row_places) }
     ensures { Filled (joined_row kind beside.now row.old) margin (margin + width) row.old row.new }
 {
-    let mut n = MARGIN;
-    while n < MARGIN + width {
-        row[n] = higher(row[n], less(highest_beside(kind, beside, n), 1));
-        n += 1;
+    for n in MARGIN..MARGIN + width {
+        row[n] = row[n].max(highest_beside(kind, beside, n).saturating_sub(1));
     }
 }
 
@@ -173,24 +147,10 @@ fn store_row(row: &[u16; ROW_PLACES], out: &mut [u8], from: usize, width: usize)
     requires { (2 * (from + width) ≤ length out.old) × (width ≤ widest_row) }
     ensures { WideFilled (λ n. get_or row.now (margin + (n - from)) 0) from (from + width) out.old out.new }
 {
-    let mut n = from;
-    while n < from + width {
+    for n in from..from + width {
         let number = row[MARGIN + (n - from)];
         out[2 * n] = numbers::first_byte(number);
         out[2 * n + 1] = numbers::second_byte(number);
-        n += 1;
-    }
-}
-
-// A row's columns to those of another.
-pub fn copy_row(row: &[u16; ROW_PLACES], beside: &mut [u16; ROW_PLACES], width: usize)
-    requires { (width ≤ widest_row) × (length beside.old ≡ row_places) }
-    ensures { Filled (λ n. get_or row.now n 0) margin (margin + width) beside.old beside.new }
-{
-    let mut n = MARGIN;
-    while n < MARGIN + width {
-        beside[n] = row[n];
-        n += 1;
     }
 }
 
@@ -209,5 +169,5 @@ pub fn merge_row(
 {
     join_row(kind, beside, row, width);
     store_row(row, out, from, width);
-    copy_row(row, beside, width);
+    row_arrays::copy_row(row, beside, width);
 }

@@ -47,12 +47,10 @@ fn pass_down(head: Head, level: u8, relief: &[u8], out: &mut [u8])
     let mut spare = [0u16; ROW_PLACES];
     let mut above = [0u16; ROW_PLACES];
     let height = head.height as usize;
-    let mut y = 0;
-    while y < height {
+    for y in 0..height {
         row_down(
             head, level, relief, y, &mut row, &mut spare, &mut above, out,
         );
-        y += 1;
     }
 }
 
@@ -83,10 +81,9 @@ fn pass_up(head: Head, out: &mut [u8])
     let mut row = [0u16; ROW_PLACES];
     let mut below = [0u16; ROW_PLACES];
     let width = head.width as usize;
-    let mut y = (head.height as usize) - 1;
-    wide_rows::load_numbers(out, y * width, width, &mut below);
-    while 0 < y {
-        y -= 1;
+    let last = (head.height as usize) - 1;
+    wide_rows::load_numbers(out, last * width, width, &mut below);
+    for y in (0..last).rev() {
         row_up(head, y, &mut row, &mut below, out);
     }
 }
@@ -96,12 +93,10 @@ fn finish_run(out: &mut [u8], to: usize)
     requires { 2 * to ≤ length out.old }
     ensures { WideFilled (λ n. wide_wall - get_or (wide_numbers out.old) n 0) 0 to out.old out.new }
 {
-    let mut n = 0;
-    while n < to {
+    for n in 0..to {
         let distance = wide_rows::WIDE_WALL - numbers::of_bytes(out[2 * n], out[2 * n + 1]);
         out[2 * n] = numbers::first_byte(distance);
         out[2 * n + 1] = numbers::second_byte(distance);
-        n += 1;
     }
 }
 

@@ -1,4 +1,4 @@
-use Prim.Native.Nat.{◌+◌, ◌-◌}
+use Prim.Native.Nat.{◌+◌}
 use native.Mathlib.Omega.{arith}
 use Rattle.clearance_cell.proofs.Search.{searched-none, searched-more, searched-end, far-row, row-places}
 use Rattle.clearance_cell.proofs.nearest_wall.Goals as goal
@@ -6,27 +6,6 @@ use Rattle.clearance_cell.proofs.nearest_wall.Goals.{then-away-best, else-away-b
 
 pub loop-away-init : goal.loop-away-init
 loop-away-init c = rw c.edge_distance-best.ensures (searched-none _ _ _ _ _ (omega arith) (omega arith) (omega arith))
-
-pub overflow_mul-row : goal.overflow_mul-row
-overflow_mul-row c =
-    omega (arith, row-places c.loop-away.invariant.room (c.args.row - c.loop-away.away) (omega arith))
-
-pub overflow_add-row : goal.overflow_add-row
-overflow_add-row c =
-    omega (arith, row-places c.loop-away.invariant.room (c.args.row - c.loop-away.away) (omega arith))
-
-pub nearest_in_row-best-requires : goal.nearest_in_row-best-requires
-nearest_in_row-best-requires c =
-    let s = row-places c.loop-away.invariant.room (c.args.row - c.loop-away.away) (omega arith) in
-    (omega arith, omega (arith, s.0), omega (arith, s.1))
-
-pub overflow_mul-row-then-away-best : goal.overflow_mul-row-then-away-best
-overflow_mul-row-then-away-best c =
-    omega (arith, row-places c.loop-away.invariant.room (c.args.row + c.loop-away.away) (omega arith))
-
-pub overflow_add-row-then-away-best-2 : goal.overflow_add-row-then-away-best-2
-overflow_add-row-then-away-best-2 c =
-    omega (arith, row-places c.loop-away.invariant.room (c.args.row + c.loop-away.away) (omega arith))
 
 pub nearest_in_row-best-requires-then-away-best : goal.nearest_in_row-best-requires-then-away-best
 nearest_in_row-best-requires-then-away-best c =

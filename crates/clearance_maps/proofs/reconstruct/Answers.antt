@@ -3,29 +3,16 @@ use mathlib.Core.Path.{◌≡◌, sym, ◌∙◌}
 use mathlib.Core.Bool.{false}
 use Rattle.theory.specs.Levels.{reconstructed}
 use Rattle.clearance_maps.specs.Calls.{reconstruct_verdict}
-use Rattle.clearance_maps.proofs.Calls.{by-shorter, accepted-plates, answered-accepted}
+use Rattle.clearance_maps.proofs.Calls.{by-shorter, answered-accepted}
 use Rattle.clearance_maps.proofs.reconstruct.Goals as goal
 
 -- what was found is what is to be said
-
-pub transform-requires : goal.transform-requires
-transform-requires c =
-    let said : let given = c.args in
-    c.check_map.result ≡ reconstruct_verdict given.map.now given.kind given.width given.height given.out.now = let s = c.args in
-    by-shorter s.kind s.width s.height false s.map.now s.out.now _ c.smaller-shortest.ensures _
-    c.check_map.ensures in
-    let s = c.args in
-    let a = sym (said) ∙ c.in_ok-check_map.was in (
-      accepted-plates s.kind s.width s.height false s.map.now s.out.now a _
-          c.head_of.ensures,
-      tt,
-    )
 
 pub returns : goal.returns
 returns c =
     let said : let given = c.args in
     c.check_map.result ≡ reconstruct_verdict given.map.now given.kind given.width given.height given.out.now = let s = c.args in
-    by-shorter s.kind s.width s.height false s.map.now s.out.now _ c.smaller-shortest.ensures _
+    by-shorter s.kind s.width s.height false s.map.now s.out.now _ c.min-shortest.ensures _
     c.check_map.ensures in
     let s = c.args in
     answered-accepted s.kind s.width s.height false s.map.now s.out.now

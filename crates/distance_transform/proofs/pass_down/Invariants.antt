@@ -1,11 +1,7 @@
 -- `pass_down` does so for every row: the invariant is `DownTo` the row reached.
-use Prim.Native.Nat.{◌-◌}
 use Rattle.row_arrays.specs.Start.{seed, start}
 use Rattle.distance_transform.proofs.Passes.{DownTo}
 use Rattle.distance_transform.proofs.pass_down.Given as goal
 
 abbrev pub invariant-loop-y : goal.invariant-loop-y
 invariant-loop-y l = DownTo l.head (start l.head (seed l.seeds) l.map) l.y l.initial.out l.row l.spare l.above l.out
-
-abbrev pub decreases-loop-y : goal.decreases-loop-y
-decreases-loop-y l = l.head.height - l.y

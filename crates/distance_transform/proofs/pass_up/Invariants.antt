@@ -4,6 +4,3 @@ use Rattle.distance_transform.proofs.pass_up.Given as goal
 
 abbrev pub invariant-loop-y : goal.invariant-loop-y
 invariant-loop-y l = UpTo l.head l.y l.initial.out l.row l.below l.out
-
-abbrev pub decreases-loop-y : goal.decreases-loop-y
-decreases-loop-y l = l.y

@@ -1,37 +1,19 @@
-use Prim.Native.Nat.{ℕ}
-use mathlib.Core.Path.{◌≡◌, refl, ap, ◌∙◌}
+use mathlib.Core.Path.{◌≡◌}
+use Prim.Native.Nat.{◌<◌}
 use native.Mathlib.Omega.{arith}
 use borrow.Author.Rules.{rules}
-use lib.ListN.{take}
-use Rattle.geometry.specs.Lists.{sum}
-use Rattle.erosion_maps.proofs.Answers.{sum_more, sum_bound}
+use lib.ListN.{get_or, take}
+use lib.Seq.{get_or-take, length-take-le}
+use Rattle.erosion_maps.proofs.Answers.{sum_more}
 use Rattle.erosion_maps.proofs.depth_sum.Goals as goal
 
-pub loop-n-init : goal.loop-n-init
-loop-n-init c = (omega arith, refl)
-
-pub overflow_add-total : goal.overflow_add-total
-overflow_add-total c =
-    omega (
-      arith,
-      c.loop-n.invariant.1,
-      sum_bound c.args.relief.now c.loop-n.n
-          (λ i. search rules) (omega arith),
-      c.wide-total.ensures,
+pub loop-depth-preserved : goal.loop-depth-preserved
+loop-depth-preserved c =
+    let n = c.loop-depth.depth-index in
+    let m = c.args.relief.now in
+    let within : n < c.args.count = omega (arith, length-take-le c.args.count m c.requires.0, c.loop-depth-test.true) in
+    let item : get_or (take c.args.count m) n 0 ≡ get_or m n 0 = get_or-take c.args.count m n 0 within in
+    let byte : get_or m n 0 < 256 = search rules in (
+      omega (arith, c.loop-depth.invariant.0, item, sum_more m n (omega arith)),
+      omega (arith, c.loop-depth.invariant.1, item, byte),
     )
-
-pub loop-n-preserved : goal.loop-n-preserved
-loop-n-preserved c = (
-  omega arith,
-  omega (
-    arith,
-    c.loop-n.invariant.1,
-    c.wide-total.ensures,
-    sum_more c.args.relief.now c.loop-n.n (omega arith),
-  ),
-)
-
-pub returns : goal.returns
-returns c =
-    let k : c.loop-n.n ≡ c.args.count = omega arith in c.loop-n.invariant.1 ∙ ap
-    (λ (j : ℕ). sum (take j c.args.relief.now)) k

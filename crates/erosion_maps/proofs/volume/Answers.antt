@@ -2,30 +2,13 @@
 use Rattle.std.specs.Prelude.{Ok}
 use mathlib.Core.Path.{sym, ap, ◌∙◌}
 use mathlib.Core.Bool.{false}
-use native.Mathlib.Omega.{arith}
 use lib.ListN.{length}
 use Rattle.theory.specs.Erosion.{volume}
 use Rattle.refusal.specs.Refusals.{head_of}
 use Rattle.refusal.proofs.Refusals.{sound}
 use Rattle.erosion_maps.specs.Calls.{volume_answer}
-use Rattle.erosion_maps.proofs.Answers.{area_small, volume-sum}
+use Rattle.erosion_maps.proofs.Answers.{volume-sum}
 use Rattle.erosion_maps.proofs.volume.Goals as goal
-
-pub overflow_mul-height : goal.overflow_mul-height
-overflow_mul-height c =
-    let given = c.args in
-    let s =
-    sound given.width given.height false (length given.relief.now)
-    (sym c.check_sides.ensures ∙ c.in_ok-check_sides.was) in
-    omega (arith, area_small given.width given.height s.narrow s.low)
-
-pub depth_sum-requires : goal.depth_sum-requires
-depth_sum-requires c =
-    let given = c.args in
-    let s =
-    sound given.width given.height false (length given.relief.now)
-    (sym c.check_sides.ensures ∙ c.in_ok-check_sides.was) in
-    (s.long, area_small given.width given.height s.narrow s.low)
 
 pub returns : goal.returns
 returns c =

@@ -1,20 +1,13 @@
-use mathlib.Core.Path.{refl}
+-- `store_row` copies the columns as one part.
+use mathlib.Core.Path.{ap}
+use Prim.Native.Nat.{◌+◌}
+use lib.ListN.{get_or}
 use native.Mathlib.Omega.{arith}
-use Rattle.buffers.proofs.Fill.{filled_none, filled_more, filled-end}
+use Rattle.buffers.proofs.Fill.{filled-copied}
+use Rattle.row_arrays.specs.Rows.{margin}
 use Rattle.row_arrays.proofs.store_row.Goals as goal
 
-pub loop-n-init : goal.loop-n-init
-loop-n-init c = (omega arith, omega arith, filled_none _ _ _)
-
-pub loop-n-preserved : goal.loop-n-preserved
-loop-n-preserved c = (
-  omega arith,
-  omega arith,
-  filled_more _ _ _ _ _ _ c.loop-n.invariant.2 (omega arith) (omega arith) refl,
-)
-
-pub shape_of-out : goal.shape_of-out
-shape_of-out c = c.loop-n.invariant.2.same
-
 pub returns : goal.returns
-returns c = filled-end _ _ _ _ _ _ c.loop-n.invariant.1 c.loop-n-test.false c.loop-n.invariant.2
+returns c =
+    filled-copied _ _ _ _ _ _ (omega arith) (omega arith) c.args.row.now margin _ c.copy_from_slice.ensures.after (omega arith) (omega arith)
+    (λ n h. ap (λ j. get_or c.args.row.now (margin + j) 0) (omega arith))

@@ -20,7 +20,7 @@ put_list-requires c =
     let b = c.cells-b in
     let r =
     subst
-    (λ (x : (Result Extent Refusal)). ListCall (depths s) (byte_in s 0) (byte_in s 1) (byte_in s 2) file.result call.new.out a.result call.new.a b.result call.new.b x)
+    (λ (x : Result Extent Refusal). ListCall (depths s) (byte_in s 0) (byte_in s 1) (byte_in s 2) file.result call.new.out a.result call.new.a b.result call.new.b x)
     c.in-Ok.is call.ensures in (
       listed-file s file.result a.result b.result file.ensures a.ensures b.ensures call.new.out
           call.new.a call.new.b _ r,
@@ -36,7 +36,7 @@ returns-in-Err c =
     let b = c.cells-b in
     let r =
     subst
-    (λ (x : (Result Extent Refusal)). ListCall (depths s) (byte_in s 0) (byte_in s 1) (byte_in s 2) file.result call.new.out a.result call.new.a b.result call.new.b x)
+    (λ (x : Result Extent Refusal). ListCall (depths s) (byte_in s 0) (byte_in s 1) (byte_in s 2) file.result call.new.out a.result call.new.a b.result call.new.b x)
     c.in-Err.is call.ensures in (
       subst
           (λ (xs : List ℕ). Puts c.args.text.now 0 xs c.put_refusal.new.page c.put_refusal.result)

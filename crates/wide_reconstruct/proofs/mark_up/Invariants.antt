@@ -4,6 +4,3 @@ use Rattle.wide_reconstruct.proofs.mark_up.Given as goal
 
 abbrev pub invariant-loop-y : goal.invariant-loop-y
 invariant-loop-y l = UpTo l.head l.map l.y l.initial.out l.row l.spare l.below l.out
-
-abbrev pub decreases-loop-y : goal.decreases-loop-y
-decreases-loop-y l = l.y

@@ -1,5 +1,5 @@
 -- `load_numbers` fills with the map's numbers: the invariant is `Filled` up to the place reached.
-use Prim.Native.Nat.{◌+◌, ◌-◌, ◌≤◌}
+use Prim.Native.Nat.{◌+◌, ◌-◌}
 use lib.ListN.{get_or}
 use Rattle.buffers.specs.Fill.{Filled}
 use Rattle.row_arrays.specs.Rows.{margin}
@@ -7,8 +7,4 @@ use Rattle.wide_rows.specs.Wide.{wide_numbers}
 use Rattle.wide_rows.proofs.load_numbers.Given as goal
 
 abbrev pub invariant-loop-n : goal.invariant-loop-n
-invariant-loop-n l = (margin ≤ l.n) × (l.n ≤ margin + l.width)
-    × Filled (λ n. get_or (wide_numbers l.map) (l.from + (n - margin)) 0) margin l.n l.initial.row l.row
-
-abbrev pub decreases-loop-n : goal.decreases-loop-n
-decreases-loop-n l = margin + l.width - l.n
+invariant-loop-n l = Filled (λ n. get_or (wide_numbers l.map) (l.from + (n - margin)) 0) margin l.n l.initial.row l.row

@@ -1,5 +1,5 @@
 -- `load_seeds` fills with seeds that are no lower than the floor: the invariant is `Filled` up to the place reached.
-use Prim.Native.Nat.{◌+◌, ◌-◌, ◌≤◌, max}
+use Prim.Native.Nat.{◌+◌, ◌-◌, max}
 use lib.ListN.{get_or}
 use Rattle.buffers.specs.Fill.{Filled}
 use Rattle.row_arrays.specs.Rows.{margin}
@@ -8,8 +8,4 @@ use Rattle.wide_rows.specs.Wide.{wide_wall}
 use Rattle.wide_rows.proofs.load_seeds.Given as goal
 
 abbrev pub invariant-loop-n : goal.invariant-loop-n
-invariant-loop-n l = (margin ≤ l.n) × (l.n ≤ margin + l.width)
-    × Filled (λ n. max (wall_number wide_wall l.level (get_or l.relief (l.from + (n - margin)) 0)) l.floor) margin l.n l.initial.row l.row
-
-abbrev pub decreases-loop-n : goal.decreases-loop-n
-decreases-loop-n l = margin + l.width - l.n
+invariant-loop-n l = Filled (λ n. max (wall_number wide_wall l.level (get_or l.relief (l.from + (n - margin)) 0)) l.floor) margin l.n l.initial.row l.row

@@ -16,6 +16,6 @@ store_row-requires c =
 pub returns : goal.returns
 returns c =
     let room_within : 2 * (c.args.from + c.args.width) ≤ length c.args.out.now = wide_room c.args.out.now (c.args.from + c.args.width) c.requires.room in
-    wide-merged _ _ _ _ _ _ _ _ _ c.requires.beside-margins c.requires.row-margins
+    wide-merged _ _ _ _ _ _ _ _ _ c.requires.narrow c.requires.beside-margins c.requires.row-margins
     (room_within) c.join_row.ensures
     c.store_row.ensures c.copy_row.ensures

@@ -1,11 +1,7 @@
 -- `propagate_step` fills with the highest of three places a step apart: the invariant is `Filled` up to the place reached.
-use Prim.Native.Nat.{◌+◌, ◌-◌, ◌≤◌}
 use Rattle.buffers.specs.Fill.{Filled}
 use Rattle.row_arrays.specs.Rows.{margin, propagated_at}
 use Rattle.wide_rows.proofs.propagate_step.Given as goal
 
 abbrev pub invariant-loop-n : goal.invariant-loop-n
-invariant-loop-n l = (margin ≤ l.n) × (l.n ≤ margin + l.width) × Filled (propagated_at l.src l.step) margin l.n l.initial.dst l.dst
-
-abbrev pub decreases-loop-n : goal.decreases-loop-n
-decreases-loop-n l = margin + l.width - l.n
+invariant-loop-n l = Filled (propagated_at l.src l.step) margin l.n l.initial.dst l.dst

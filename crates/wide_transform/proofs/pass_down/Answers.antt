@@ -1,6 +1,6 @@
 use native.Mathlib.Omega.{arith}
 use Rattle.wide_rows.proofs.Wide.{room-wide, wide_fits}
-use Rattle.distance_transform.proofs.Passes.{down-none, down-more, down-all}
+use Rattle.distance_transform.proofs.Passes.{down-none, down-more}
 use Rattle.wide_transform.proofs.Passes.{only_none, only-more}
 use Rattle.wide_transform.proofs.pass_down.Goals as goal
 
@@ -28,9 +28,3 @@ loop-y-preserved c =
       down-more _ _ _ _ _ _ _ _ _ _ _ _ c.loop-y.invariant.0 c.loop-y-test.true done.0,
       only-more _ _ _ _ c.loop-y.invariant.1 done.1,
     )
-
-pub shape_of-out : goal.shape_of-out
-shape_of-out c = c.loop-y.invariant.1.same
-
-pub returns : goal.returns
-returns c = (down-all _ _ _ _ _ _ _ _ c.loop-y.invariant.0 c.loop-y-test.false, c.loop-y.invariant.1)

@@ -8,18 +8,6 @@ use Rattle.distance_transform.proofs.Passes.{up_none, up_more, up-all}
 use Rattle.wide_transform.proofs.Passes.{only_none, only-more}
 use Rattle.wide_transform.proofs.pass_up.Goals as goal
 
--- the last row lies in the map
-
-pub overflow_sub-y : goal.overflow_sub-y
-overflow_sub-y c = c.requires.0.tall
-
-pub overflow_mul-y : goal.overflow_mul-y
-overflow_mul-y c =
-    let last_row : 2 * ((c.args.head.height - 1) * c.args.head.width + c.args.head.width) ≤ length c.args.out.now = wide_room c.args.out.now _
-    (row_room c.args.head.width (c.args.head.height - 1) c.args.head.height _ (omega (arith, c.requires.0.tall))
-    (room-wide c.args.out.now _ c.requires.1)) in
-    omega (arith, last_row)
-
 pub load_numbers-requires : goal.load_numbers-requires
 load_numbers-requires c =
     let last_row : 2 * ((c.args.head.height - 1) * c.args.head.width + c.args.head.width) ≤ length c.args.out.now = wide_room c.args.out.now _
@@ -46,19 +34,12 @@ row_up-requires c =
       below-margins = d.below-margins;
     }
 
-pub loop-y-smaller : goal.loop-y-smaller
-loop-y-smaller c =
-    omega (arith, c.loop-y-test.true)
-
 pub loop-y-preserved : goal.loop-y-preserved
 loop-y-preserved c =
     let done = c.row_up.ensures in (
       up_more _ _ _ _ _ _ _ _ _ _ (omega (arith, c.loop-y-test.true)) c.loop-y.invariant.0 done.0,
       only-more _ _ _ _ c.loop-y.invariant.1 done.1,
     )
-
-pub shape_of-out : goal.shape_of-out
-shape_of-out c = c.loop-y.invariant.1.same
 
 pub returns : goal.returns
 returns c = (up-all _ _ _ _ _ _ c.loop-y.invariant.0 c.loop-y-test.false, c.loop-y.invariant.1)

@@ -6,6 +6,3 @@ use Rattle.wide_transform.proofs.pass_up.Given as goal
 
 abbrev pub invariant-loop-y : goal.invariant-loop-y
 invariant-loop-y l = UpTo l.head l.y (wide_numbers l.initial.out) l.row l.below (wide_numbers l.out) × WideOnly l.head l.initial.out l.out
-
-abbrev pub decreases-loop-y : goal.decreases-loop-y
-decreases-loop-y l = l.y

@@ -1,6 +1,5 @@
 -- `row_up` propagates a row over all rows, from the row below.
 use Prim.Native.Nat.{◌+◌, ◌*◌, ◌≤◌}
-use native.Mathlib.Omega.{arith}
 use lib.ListN.{length}
 use Rattle.buffers.proofs.Rooms.{row_room}
 use Rattle.wide_rows.specs.Wide.{wide_numbers}
@@ -8,15 +7,6 @@ use Rattle.wide_rows.proofs.Wide.{wide_room}
 use Rattle.distance_transform.proofs.Passes.{row_up}
 use Rattle.wide_transform.proofs.Passes.{only_row}
 use Rattle.wide_transform.proofs.row_up.Goals as goal
-
--- the row lies in the map that is written
-
-pub overflow_mul-y : goal.overflow_mul-y
-overflow_mul-y c =
-    let row_within : c.args.y * c.args.head.width + c.args.head.width ≤ length (wide_numbers c.args.out.now) =
-    row_room c.args.head.width c.args.y c.args.head.height _ c.requires.here c.requires.room in
-    let bytes-within : 2 * (c.args.y * c.args.head.width + c.args.head.width) ≤ length c.args.out.now = wide_room c.args.out.now _ (row_within) in
-    omega (arith, bytes-within)
 
 pub load_numbers-requires : goal.load_numbers-requires
 load_numbers-requires c =
@@ -27,24 +17,6 @@ load_numbers-requires c =
       c.requires.held.narrow,
       c.requires.row-margins,
     )
-
-pub overflow_mul-y-2 : goal.overflow_mul-y-2
-overflow_mul-y-2 c =
-    let row_within : c.args.y * c.args.head.width + c.args.head.width ≤ length (wide_numbers c.args.out.now) =
-    row_room c.args.head.width c.args.y c.args.head.height _ c.requires.here c.requires.room in
-    let bytes-within : 2 * (c.args.y * c.args.head.width + c.args.head.width) ≤ length c.args.out.now = wide_room c.args.out.now _ (row_within) in
-    omega (arith, bytes-within)
-
-pub merge_row-requires : goal.merge_row-requires
-merge_row-requires c =
-    let row_within : c.args.y * c.args.head.width + c.args.head.width ≤ length (wide_numbers c.args.out.now) =
-    row_room c.args.head.width c.args.y c.args.head.height _ c.requires.here c.requires.room in
-    record {
-      room = row_within;
-      narrow = c.requires.held.narrow;
-      beside-margins = c.requires.below-margins;
-      row-margins = c.load_numbers.ensures.margins;
-    }
 
 pub returns : goal.returns
 returns c =
