@@ -2,8 +2,6 @@
 use Rattle.wide_reconstruct.proofs.Marks.{row-marked}
 use Rattle.wide_reconstruct.proofs.mark_row.Goals as goal
 
--- the row lies in both maps
-
 pub returns : goal.returns
 returns c =
     row-marked c.args.head c.args.map.now c.args.y c.requires.here c.requires.plates.held _ _ _ _ _ _ _ _ c.requires.beside-margins
