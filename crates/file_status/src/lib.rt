@@ -90,24 +90,12 @@ pub fn status_of(rt: &HostRuntime, name: &[u8]) -> FileStatus
 
 // ---- links
 
-// How many of n bytes fit.
-fn fitting(n: usize, room: &[u8]) -> usize
-    ensures fits { IsPrefixLen result room.now }
-    ensures most { result ≤ n }
-{
-    if n < room.len() { n } else { room.len() }
-}
-
 // As much of a text as fits.
 fn put_start(target: &mut [u8], text: &[u8]) -> usize
     ensures { IsPrefixLen result target.new }
 {
-    let n = fitting(text.len(), target);
-    let mut i = 0;
-    while i < n {
-        target[i] = text[i];
-        i += 1;
-    }
+    let n = text.len().min(target.len());
+    target[..n].copy_from_slice(&text[..n]);
     n
 }
 
