@@ -175,6 +175,9 @@ module _ {fraction half rest margin number count : ℕ} (f : Found fraction half
   pub number-below : (n : ℕ) → count ≤ n → number < 10 ^ n
   number-below n h = lt_of_lt_of_le f.bounded (pow-le-pow_right (zero-lt-suc 9) h)
 
+  pub far-below : is_far rest margin ≡ true → number < 10 ^ (most_digits - 1)
+  far-below t = number-below (most_digits - 1) (omega (arith, far-few t))
+
   -- so many digits are too few
   too_few : is_far rest margin ≡ true → (n : ℕ) → NearerThanHalf fraction half n count → ⊥
   too_few t n w = omega (arith, far-sides t, f.exact, f.small, w.0, w.1, add-mul fraction half (10 ^ count))
