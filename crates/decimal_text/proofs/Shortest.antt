@@ -154,9 +154,6 @@ found_none fraction half margin h e l =
     }
 
 module _ {fraction half rest margin number count : ℕ} (f : Found fraction half rest margin number count) where
-  pub margin-some : 0 < margin
-  margin-some = omega (arith, f.scaled, mul-pos f.some (ten-pos count))
-
   -- the test of the margin that is not cut
   uncut : (b : Bool) → is_far rest margin ≡ b → is_far rest (half * 10 ^ count) ≡ b
   uncut b t = sym (ap (is_far rest) f.scaled ∙ far-capped rest (half * 10 ^ count)) ∙ t
