@@ -12,13 +12,7 @@ use comparison::{Comparison, Difference};
 fn number_in(file: &[u8], i: usize) -> u64
     ensures { result ≡ get_or file.now i 0 }
 {
-    wide(scan::byte_in(file, i))
-}
-
-fn wide(byte: u8) -> u64
-    ensures { result ≡ byte }
-{
-    byte as u64
+    u64::from(scan::byte_in(file, i))
 }
 
 fn append_kinds(page: &mut [u8], at: usize, first: &[u8], second: &[u8]) -> usize
@@ -52,8 +46,8 @@ fn append_cell(page: &mut [u8], at: usize, d: Difference) -> usize
 {
     let x = phrases::append_phrase(page, at, b"column ", d.column as u64, b", row ");
     let y = phrases::append_phrase(page, x, b"", d.row as u64, b": depth ");
-    let z = phrases::append_phrase(page, y, b"", wide(d.first), b" and ");
-    phrases::append_phrase(page, z, b"", wide(d.second), b"\n")
+    let z = phrases::append_phrase(page, y, b"", u64::from(d.first), b" and ");
+    phrases::append_phrase(page, z, b"", u64::from(d.second), b"\n")
 }
 
 // The line of a comparison of two files; none of a refusal.

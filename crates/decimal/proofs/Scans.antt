@@ -1,12 +1,12 @@
 -- Reading byte by byte gives what the whole text denotes.
-use Rattle.std.proofs.Common.{◌≡◌, ℕ, zero, suc, ◌+◌, ◌-◌, ◌*◌, ◌^◌, ◌<◌, ◌≤◌, Bool, true, false, cond, eqb, ltb, leb, List, [], ◌∷◌, length, get_or, take, drop, sym, refl, ap, ◌∙◌, le_trans, lt_of_lt_of_le, add-zero, le_of_lt, zero-lt-suc, mul_assoc, one-mul, pow-suc, mul-one, add-one, arith, lit<, lit≤, length-drop, drop_of_length-le, take_all, drop-cons, ltb-false, le-ltb, lt-ltb, eq-eqb, ne_eqb, eqb-true, leb-true}
+use Rattle.std.proofs.Common.{◌≡◌, ℕ, zero, suc, ◌+◌, ◌-◌, ◌*◌, ◌^◌, ◌<◌, ◌≤◌, Bool, true, false, cond, eqb, ltb, leb, List, [], ◌∷◌, length, get_or, drop, sym, refl, ap, ◌∙◌, le_trans, lt_of_lt_of_le, add-zero, le_of_lt, zero-lt-suc, mul_assoc, one-mul, pow-suc, mul-one, add-one, arith, lit<, lit≤, drop_of_length-le, drop-cons, ltb-false, le-ltb, lt-ltb, eq-eqb, ne_eqb, eqb-true, leb-true}
 use native.Mathlib.Nat.{pow-succ', pow-le-pow_right}
 use borrow.Author.Tests.{lt-leb}
 use lib.Ieee.{Float, binary64, round}
 use Rattle.decimal.specs.declared.Decimal.{Decimal}
 use Rattle.decimal.specs.declared.Decimal.TheVariants.{Number, NotNumber, TooLong}
 use Rattle.decimal.specs.declared.Scan.{Scan}
-use Rattle.decimal.specs.Decimal.{is_digit, are_digits, value_after, fraction_part, digits_in, of_digits, unsigned_of, decimal_of}
+use Rattle.decimal.specs.Decimal.{is_digit, are_digits, value_after, fraction_part, digits_in, of_digits, unsigned_of}
 use Rattle.decimal.specs.Scan.{Bounded, begun, spoiled, pointed, with_digit, scanned_byte, scanned}
 
 -- ---- a digit is 0 to 9
@@ -244,15 +244,3 @@ short u s e h =
     let k : Bounded s = rw e (bounded-all u begun bounded-begun) in
     let l : 10 ^ s.count ≤ 10 ^ 15 = pow-le-pow_right (zero-lt-suc 9) h in
     (le_trans (le_of_lt k.digits-below) l, k.unit-above, le_trans k.unit-within l)
-
--- ---- with its sign
-
-pub no_text : (l : List ℕ) (r : Decimal) → length l ≡ 0 → r ≡ unsigned_of false l → r ≡ decimal_of l
-no_text [] r h e = e
-no_text (b ∷ l) r h e = absurd (omega arith)
-
-pub with-minus : (l : List ℕ) (r : Decimal) → get_or l 0 0 ≡ 45 → r ≡ unsigned_of true (take (length l - 1) (drop 1 l)) → r ≡ decimal_of l
-with-minus l r h e = rw (eq-eqb (get_or l 0 0) 45 h) (rw (take_all (length l - 1) (drop 1 l) (omega (arith, length-drop 1 l))) at e)
-
-pub no_minus : (l : List ℕ) (r : Decimal) → (get_or l 0 0 ≡ 45 → ⊥) → r ≡ unsigned_of false l → r ≡ decimal_of l
-no_minus l r h e = rw (ne_eqb (get_or l 0 0) 45 h) e

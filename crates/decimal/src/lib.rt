@@ -29,7 +29,7 @@ pub struct Scan {
 fn is_digit(b: u8) -> bool
     ensures { result ≡ is_digit b }
 {
-    if 48 <= b { b <= 57 } else { false }
+    48 <= b && b <= 57
 }
 
 // Ten after the point, one before it.
@@ -49,16 +49,14 @@ fn with_digit(s: Scan, digit: u64) -> Scan
             digits: 10 * s.digits + digit,
             unit: s.unit * factor(s.point),
             count: s.count + 1,
-            point: s.point,
-            good: s.good,
+            ..s
         }
     } else {
         Scan {
             digits: 0,
             unit: 1,
             count: 16,
-            point: s.point,
-            good: s.good,
+            ..s
         }
     }
 }
@@ -66,13 +64,7 @@ fn with_digit(s: Scan, digit: u64) -> Scan
 fn spoil(s: Scan) -> Scan
     ensures { result ≡ spoiled s }
 {
-    Scan {
-        digits: s.digits,
-        unit: s.unit,
-        count: s.count,
-        point: s.point,
-        good: false,
-    }
+    Scan { good: false, ..s }
 }
 
 // A point: the first is right, a second is not.
@@ -82,13 +74,7 @@ fn with_point(s: Scan) -> Scan
     if s.point {
         spoil(s)
     } else {
-        Scan {
-            digits: s.digits,
-            unit: s.unit,
-            count: s.count,
-            point: true,
-            good: s.good,
-        }
+        Scan { point: true, ..s }
     }
 }
 
@@ -99,8 +85,10 @@ fn step(s: Scan, b: u8) -> Scan
 {
     if is_digit(b) {
         with_digit(s, (b as u64) - 48)
+    } else if b == b'.' {
+        with_point(s)
     } else {
-        if b == b'.' { with_point(s) } else { spoil(s) }
+        spoil(s)
     }
 }
 
@@ -114,10 +102,8 @@ fn scan_all(text: &[u8]) -> Scan
         point: false,
         good: true,
     };
-    let mut i = 0;
-    while i < text.len() {
-        s = step(s, text[i]);
-        i += 1;
+    for b in text {
+        s = step(s, *b);
     }
     s
 }
@@ -136,10 +122,7 @@ fn unsigned(text: &[u8], negative: bool) -> Decimal
     ensures { result ≡ unsigned_of negative text.now }
 {
     let s = scan_all(text);
-    if !s.good {
-        return Decimal::NotNumber;
-    }
-    if s.count == 0 {
+    if !s.good || s.count == 0 {
         return Decimal::NotNumber;
     }
     if 15 < s.count {
@@ -152,12 +135,8 @@ fn unsigned(text: &[u8], negative: bool) -> Decimal
 pub fn number_of(text: &[u8]) -> Decimal
     ensures { result ≡ decimal_of text.now }
 {
-    if text.len() == 0 {
-        return unsigned(text, false);
-    }
-    if text[0] == b'-' {
-        unsigned(&text[1..], true)
-    } else {
-        unsigned(text, false)
+    match text {
+        [b'-', rest @ ..] => unsigned(rest, true),
+        _ => unsigned(text, false),
     }
 }

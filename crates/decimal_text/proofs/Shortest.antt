@@ -154,9 +154,6 @@ found_none fraction half margin h e l =
     }
 
 module _ {fraction half rest margin number count : ℕ} (f : Found fraction half rest margin number count) where
-  pub margin-some : 0 < margin
-  margin-some = omega (arith, f.scaled, mul-pos f.some (ten-pos count))
-
   -- the test of the margin that is not cut
   uncut : (b : Bool) → is_far rest margin ≡ b → is_far rest (half * 10 ^ count) ≡ b
   uncut b t = sym (ap (is_far rest) f.scaled ∙ far-capped rest (half * 10 ^ count)) ∙ t
@@ -174,6 +171,9 @@ module _ {fraction half rest margin number count : ℕ} (f : Found fraction half
 
   pub number-below : (n : ℕ) → count ≤ n → number < 10 ^ n
   number-below n h = lt_of_lt_of_le f.bounded (pow-le-pow_right (zero-lt-suc 9) h)
+
+  pub far-below : is_far rest margin ≡ true → number < 10 ^ (most_digits - 1)
+  far-below t = number-below (most_digits - 1) (omega (arith, far-few t))
 
   -- so many digits are too few
   too_few : is_far rest margin ≡ true → (n : ℕ) → NearerThanHalf fraction half n count → ⊥

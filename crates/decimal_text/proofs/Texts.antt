@@ -2,10 +2,10 @@
 use mathlib.Core.Path.{◌≡◌, refl, sym, ap, ap₂, ◌∙◌}
 use mathlib.Core.Bool.{Bool, true, false, cond}
 use mathlib.Core.List.{List, [], ◌∷◌, ◌++◌, append_assoc, append-nil}
-use Prim.Native.Nat.{ℕ, suc, ◌+◌, ◌-◌, ◌≤◌, ◌<◌}
+use Prim.Native.Nat.{ℕ, suc, ◌+◌, ◌≤◌, ◌<◌}
 use native.Mathlib.Numerals.{add-one, add-two}
 use native.Mathlib.Omega.{arith}
-use borrow.Author.Tests.{le-leb, lt-leb, leb-true, leb-false, eq-eqb, ne_eqb}
+use borrow.Author.Tests.{leb-true, leb-false, eq-eqb, ne_eqb}
 use lib.Dec.{eqb, leb}
 use lib.ListN.{length, set, length-append}
 use lib.Seq.{sets-eq}
@@ -14,19 +14,12 @@ use Rattle.fields.proofs.Splice.{splice-length, splice-splice}
 use Rattle.numerals.specs.Numerals.{digit_text, numeral}
 use Rattle.numerals.specs.Sizes.{IsSize}
 use Rattle.numerals.proofs.Digits.{digits-length}
-use Rattle.numerals.proofs.Sizes.{numeral-digits, numeral-length}
+use Rattle.numerals.proofs.Sizes.{numeral-digits, numeral-length, numeral-size}
 use Rattle.decimal_text.specs.declared.Digits.{Digits}
 use Rattle.decimal_text.specs.Digits.{most_digits}
 use Rattle.decimal_text.specs.Text.{text_of, hexadecimal, not_number, Put}
 
 -- ---- whether text fits
-
-pub room-same : (at bytes l : ℕ) → at ≤ l → leb bytes (l - at) ≡ leb (at + bytes) l
-room-same at bytes l h = go (leb bytes (l - at)) refl
-  where
-    go : (b : Bool) → leb bytes (l - at) ≡ b → b ≡ leb (at + bytes) l
-    go true e = sym (le-leb (at + bytes) l (omega (arith, leb-true bytes (l - at) e)))
-    go false e = sym (lt-leb (at + bytes) l (omega (arith, leb-false bytes (l - at) e)))
 
 pub room : (at k l : ℕ) (b : Bool) → b ≡ leb (at + k) l → b ≡ true → at + k ≤ l
 room at k l b e h = leb-true (at + k) l (sym e ∙ h)
@@ -91,12 +84,6 @@ pointed-text : (old : List ℕ) (at whole : ℕ) (d : Digits) → (d.count ≡ 0
 pointed-text old at whole d z h =
     rw (ne_eqb d.count 0 z) (row old (numeral whole) (digit_text 10 d.count d.number) at 46 (omega (arith, digits-length 10 d.count d.number)))
 
-pub hexadecimal-same : (old new : List ℕ) (at bits : ℕ) → at + 18 ≤ length old
-    → new ≡ spliced (set (set old at 48) (at + 1) 120) (at + 2) (digit_text 16 16 bits)
-    → length new ≡ length old
-hexadecimal-same old new at bits h e = ap length (hexadecimal-done old new at bits h e) ∙ splice-length old at (hexadecimal bits)
-    (omega (arith, hexadecimal-length bits))
-
 pub tail-most : (tail count : ℕ) → tail ≡ cond (eqb count 0) 0 (1 + count) → count ≤ most_digits → tail ≤ 1 + most_digits
 tail-most tail count e h = rw e (go (eqb count 0))
   where
@@ -112,6 +99,10 @@ pub record Measured (whole : ℕ) (d : Digits) (size tail : ℕ) : Type 0 where
   pub bound : whole < 18446744073709551616
   pub sized : IsSize whole size
   pub tailed : tail ≡ cond (eqb d.count 0) 0 (1 + d.count)
+
+pub measured : (whole size tail : ℕ) (d : Digits) → whole < 18446744073709551616 → size ≡ length (numeral whole)
+    → tail ≡ cond (eqb d.count 0) 0 (1 + d.count) → Measured whole d size tail
+measured whole size tail d bound e tailed = record { bound = bound; sized = numeral-size whole size bound e; tailed = tailed }
 
 module _ {whole : ℕ} {d : Digits} {size tail : ℕ} (g : Measured whole d size tail) (old : List ℕ) (at : ℕ) where
   whole-digits : numeral whole ≡ digit_text 10 size whole
@@ -132,9 +123,6 @@ module _ {whole : ℕ} {d : Digits} {size tail : ℕ} (g : Measured whole d size
       let w : text_of whole d ≡ numeral whole = whole-text whole d z in
       done (text_of whole d) old new at size (ap length w ∙ whole_length) (omega arith) (e ∙ ap (spliced old at) (sym (w ∙ whole-digits)))
 
-  pub middle-same : (mid : List ℕ) → at + (size + tail) ≤ length old → mid ≡ spliced old at (digit_text 10 size whole) → length mid ≡ length old
-  middle-same mid h e = ap length e ∙ splice-length old at (digit_text 10 size whole) (omega (arith, digits-length 10 size whole))
-
   pub parts-text : (mid new : List ℕ) → (d.count ≡ 0 → ⊥) → at + (size + tail) ≤ length old → mid ≡ spliced old at (digit_text 10 size whole)
       → new ≡ spliced (set mid (at + size) 46) (at + size + 1) (digit_text 10 d.count d.number) → new ≡ spliced old at (text_of whole d)
   parts-text mid new z h m e =
@@ -146,6 +134,3 @@ module _ {whole : ℕ} {d : Digits} {size tail : ℕ} (g : Measured whole d size
   pub parts-both : (new : List ℕ) → at + (size + tail) ≤ length old → new ≡ spliced old at (text_of whole d)
       → Put (text_of whole d) old new at (at + (size + tail))
   parts-both new h e = done (text_of whole d) old new at (size + tail) total h e
-
-  pub parts_same : (new : List ℕ) → at + (size + tail) ≤ length old → new ≡ spliced old at (text_of whole d) → length new ≡ length old
-  parts_same new h e = ap length e ∙ splice-length old at (text_of whole d) (omega (arith, total))

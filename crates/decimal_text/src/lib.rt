@@ -73,11 +73,7 @@ fn is_far(rest: u64, margin: u64) -> bool
     requires { 0 < margin }
     ensures { result ≡ is_far rest margin }
 {
-    if margin <= rest {
-        margin <= u64::MAX - rest + 1
-    } else {
-        false
-    }
+    margin <= rest && margin <= u64::MAX - rest + 1
 }
 
 // Ten times the margin, or where that does not fit the largest number: nothing is as far.
@@ -151,11 +147,7 @@ fn tail_length(count: usize) -> usize
 fn has_room(length: usize, at: usize, bytes: usize) -> bool
     ensures { result ≡ leb (at + bytes) length }
 {
-    if at <= length {
-        bytes <= length - at
-    } else {
-        false
-    }
+    at <= length && bytes <= length - at
 }
 
 // Whole number, and after a point the fraction's digits, if there are any.

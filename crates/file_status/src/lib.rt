@@ -49,24 +49,14 @@ pub const MISSING: FileStatus = FileStatus {
 
 // A name as std takes it: text. Of one that is none no file can be asked for.
 pub fn text_of(name: &[u8]) -> Result<&str, Error> {
-    match std::str::from_utf8(name) {
-        Ok(text) => Ok(text),
-        Err(_) => Err(Error::from_raw_os_error(NO_TEXT)),
-    }
+    std::str::from_utf8(name).map_err(|_| Error::from_raw_os_error(NO_TEXT))
 }
 
 // What the system says of a name, links followed, or why it says nothing.
 pub fn find(rt: &HostRuntime, name: &[u8]) -> Result<FileStatus, Error>
     ensures { IfOk result (λ status. status.found ≡ true) }
 {
-    let text = match text_of(name) {
-        Ok(text) => text,
-        Err(error) => return Err(error),
-    };
-    let seen = match fs::metadata(rt, text) {
-        Ok(seen) => seen,
-        Err(error) => return Err(error),
-    };
+    let seen = fs::metadata(rt, text_of(name)?)?;
     Ok(FileStatus {
         found: true,
         mode: seen.mode(),
@@ -82,41 +72,22 @@ pub fn status_of(rt: &HostRuntime, name: &[u8]) -> FileStatus
     if !is_path(name) {
         return MISSING;
     }
-    match find(rt, name) {
-        Ok(status) => status,
-        Err(_) => MISSING,
-    }
+    find(rt, name).unwrap_or(MISSING)
 }
 
 // ---- links
-
-// How many of n bytes fit.
-fn fitting(n: usize, room: &[u8]) -> usize
-    ensures fits { IsPrefixLen result room.now }
-    ensures most { result ≤ n }
-{
-    if n < room.len() { n } else { room.len() }
-}
 
 // As much of a text as fits.
 fn put_start(target: &mut [u8], text: &[u8]) -> usize
     ensures { IsPrefixLen result target.new }
 {
-    let n = fitting(text.len(), target);
-    let mut i = 0;
-    while i < n {
-        target[i] = text[i];
-        i += 1;
-    }
+    let n = text.len().min(target.len());
+    target[..n].copy_from_slice(&text[..n]);
     n
 }
 
 fn target_of(rt: &HostRuntime, name: &[u8]) -> Result<PathBuf, Error> {
-    let text = match text_of(name) {
-        Ok(text) => text,
-        Err(error) => return Err(error),
-    };
-    fs::read_link(rt, text)
+    fs::read_link(rt, text_of(name)?)
 }
 
 // Puts where a link leads at the start of target, as much as fits, and gives how many bytes these are: 0 where the name is no link, or
@@ -157,10 +128,7 @@ fn open_for_writing(rt: &HostRuntime, text: &str, kind: u32) -> Result<File, Err
 // Whether the process may write the file: it is opened for writing, and closed as it was. If not, why. A program that is running may not
 // be written, but its file may be replaced.
 pub fn try_writing(rt: &HostRuntime, name: &[u8]) -> Result<(), Error> {
-    let text = match text_of(name) {
-        Ok(text) => text,
-        Err(error) => return Err(error),
-    };
+    let text = text_of(name)?;
     let status = status_of(rt, name);
     match open_for_writing(rt, text, status.mode & KIND) {
         Ok(_) => Ok(()),
@@ -175,11 +143,5 @@ pub fn try_writing(rt: &HostRuntime, name: &[u8]) -> Result<(), Error> {
 pub fn is_writable(rt: &HostRuntime, name: &[u8]) -> bool
     ensures { is_path name.now ≡ false → result ≡ false }
 {
-    if !is_path(name) {
-        return false;
-    }
-    match try_writing(rt, name) {
-        Ok(()) => true,
-        Err(_) => false,
-    }
+    is_path(name) && try_writing(rt, name).is_ok()
 }

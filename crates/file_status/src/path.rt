@@ -9,17 +9,7 @@ pub const PATH_MAX: usize = 4096;
 pub fn is_path(name: &[u8]) -> bool
     ensures { result ≡ is_path name.now }
 {
-    if name.len() >= PATH_MAX {
-        return false;
-    }
-    let mut i = 0;
-    while i < name.len() {
-        if name[i] == 0 {
-            return false;
-        }
-        i += 1;
-    }
-    true
+    name.len() < PATH_MAX && !name.contains(&0)
 }
 
 // The name, and zeros behind it.
@@ -28,10 +18,6 @@ pub fn path_of(name: &[u8]) -> [u8; PATH_MAX]
     ensures { result ≡ path_of name.now }
 {
     let mut path = [0u8; PATH_MAX];
-    let mut i = 0;
-    while i < name.len() {
-        path[i] = name[i];
-        i += 1;
-    }
+    path[..name.len()].copy_from_slice(name);
     path
 }

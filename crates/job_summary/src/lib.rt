@@ -78,8 +78,7 @@ fn append_reaches(page: &mut [u8], at: usize, file: &[u8], job: Job) -> usize
     let mut greatest = [0u8; job_figures::REACHES];
     job_figures::tally(file, job, &mut counts, &mut least, &mut greatest);
     let mut end = at;
-    let mut reach = 0;
-    while reach < job_figures::REACHES {
+    for reach in 0..job_figures::REACHES {
         end = append_found(
             page,
             end,
@@ -88,7 +87,6 @@ fn append_reaches(page: &mut [u8], at: usize, file: &[u8], job: Job) -> usize
             least[reach],
             greatest[reach],
         );
-        reach += 1;
     }
     end
 }

@@ -236,12 +236,10 @@ fn answer_all(
     ensures { result ≤ 2 }
 {
     let count = tool_io::words::count(rt);
-    let mut which = request.first;
-    let mut number = tool_words::plain_word(rt, which);
-    let mut status = answer_input(rt, fd, about, request, number, input, out, a, b, c);
-    while which < count {
-        which += 1;
-        number = tool_words::plain_word(rt, which);
+    let first = tool_words::plain_word(rt, request.first);
+    let mut status = answer_input(rt, fd, about, request, first, input, out, a, b, c);
+    for which in request.first..count {
+        let number = tool_words::plain_word(rt, which + 1);
         if number == 0 {
             return status;
         }
@@ -301,7 +299,7 @@ fn compare_files(
     ensures { result ≤ 2 }
 {
     let compared = comparison::compare(first, second, a, b);
-    let scale = tool_words::scales::none().scale;
+    let scale = tool_words::scales::none();
     match compared {
         Comparison::FirstRefused(refusal) => {
             refusals::say_refusal(one, Command::Same, scale, first, refusal);
@@ -452,11 +450,9 @@ fn run(
     if !tool_words::fits(rt, command, options) {
         return help::usage();
     }
-    let given = tool_words::scales::scale_of(rt, command);
-    if !given.ok {
+    let Some(scale) = tool_words::scales::scale_of(rt, command) else {
         return 2;
-    }
-    let scale = given.scale;
+    };
     let kind = tool_words::given_kind(rt, options);
     if kind == 0 {
         return help::usage();

@@ -15,7 +15,7 @@ pub struct Given {
 fn say_refused(from: &[u8], field: &[u8], refusal: refusal::Refusal) -> u32
     ensures { result ≤ 2 }
 {
-    let scale = tool_words::scales::none().scale;
+    let scale = tool_words::scales::none();
     crate::refusals::say_refusal(from, Command::Table, scale, field, refusal)
 }
 

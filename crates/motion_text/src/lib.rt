@@ -107,13 +107,14 @@ pub fn put_page(
 {
     let plunges = job.plunges;
     let mut used = 0;
-    let mut next = from;
-    while next < plunges {
+    for next in from..plunges {
         if page.len() - used < LINES {
             return Page { used, next };
         }
         used = put_lines(page, used, table, file, job, next, scale);
-        next += 1;
     }
-    Page { used, next }
+    Page {
+        used,
+        next: plunges,
+    }
 }

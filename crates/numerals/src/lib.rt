@@ -22,11 +22,9 @@ pub fn put_digits(n: u64, base: u64, count: usize, out: &mut [u8], at: usize)
     ensures { out.new ≡ spliced out.old at (digit_text base count n) }
 {
     let mut left = n;
-    let mut i = count;
-    while 0 < i {
-        i -= 1;
+    for i in (0..count).rev() {
         out[at + i] = digit_byte(left % base);
-        left = left / base;
+        left /= base;
     }
 }
 

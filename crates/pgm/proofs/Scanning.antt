@@ -65,13 +65,13 @@ module _ (f : List ℕ) (at value end : ℕ) (r : Reads f at value end) where
       let p : end ≡ at + digits (drop at f) = omega (arith, d, r.place) in
       rw (← v, ← p)
 
-  pub reads-ended : length f ≤ end → record { at = at; value = value; end = end } ≡ number_at f at
+  pub reads-ended : length f ≤ end → (k : ℕ) → k ≡ end → record { at = at; value = value; end = k } ≡ number_at f at
   unfolding number_from digits
-  reads-ended h =
+  reads-ended h k e =
       let n : number_from value (drop end f) ≡ value = rw (drop_of_length-le f h) in
       let d : digits (drop end f) ≡ 0 = rw (drop_of_length-le f h) in
       let v : value ≡ number_from 0 (drop at f) = sym n ∙ r.number in
-      let p : end ≡ at + digits (drop at f) = omega (arith, d, r.place) in
+      let p : k ≡ at + digits (drop at f) = omega (arith, d, r.place) in
       rw (← v, ← p)
 
 -- ---- samples

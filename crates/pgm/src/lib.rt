@@ -110,16 +110,14 @@ fn gap_end(file: &[u8], from: usize) -> usize
     ensures { result ≡ gap_end file.now from }
 {
     let mut comment = false;
-    let mut i = from;
-    while i < file.len() {
+    for i in from..file.len() {
         let b = file[i];
         if !in_gap(comment, b) {
             return i;
         }
         comment = in_comment(comment, b);
-        i += 1;
     }
-    i
+    from.max(file.len())
 }
 
 // One digit more.
@@ -139,15 +137,14 @@ fn number_at(file: &[u8], at: usize) -> Number
     ensures { result ≡ number_at file.now at }
 {
     let mut value: u32 = 0;
-    let mut end = at;
-    while end < file.len() {
+    for end in at..file.len() {
         let b = file[end];
         if !is_digit(b) {
             return Number { at, value, end };
         }
         value = with_digit(value, b);
-        end += 1;
     }
+    let end = at.max(file.len());
     Number { at, value, end }
 }
 
@@ -226,14 +223,12 @@ fn area(header: Header) -> usize
 fn count_within(samples: &[u8], most: u32) -> usize
     ensures { result ≡ count_within most samples.now }
 {
-    let mut i = 0;
-    while i < samples.len() {
-        if most < samples[i] as u32 {
+    for (i, s) in samples.iter().enumerate() {
+        if most < *s as u32 {
             return i;
         }
-        i += 1;
     }
-    i
+    samples.len()
 }
 
 // The samples, from a place in the file on.

@@ -1,15 +1,13 @@
 -- Texts put one after another at places of a page.
 use mathlib.Core.Path.{◌≡◌, refl, sym, ap, ◌∙◌}
 use mathlib.Core.List.{List, [], ◌∷◌, ◌++◌}
-use Prim.Native.Nat.{ℕ, ◌+◌, ◌≤◌, ◌<◌}
+use Prim.Native.Nat.{ℕ, ◌+◌, ◌≤◌}
 use native.Mathlib.Omega.{arith}
-use native.Mathlib.Numerals.{add-one}
-use native.Mathlib.Nat.{le_antisymm}
-use lib.ListN.{length, take, set, get_or, length-append, length-set}
-use lib.Seq.{sets-eq, length-take-le, take-suc, take-length}
+use lib.ListN.{length, set, length-append}
+use lib.Seq.{sets-eq, length-take-le}
 use Rattle.io.specs.Counts.{IsPrefixLen}
 use Rattle.fields.specs.Writing.{spliced}
-use Rattle.fields.proofs.Splice.{splice-nil, splice-splice, splice-length}
+use Rattle.fields.proofs.Splice.{splice-splice, splice-length}
 use Rattle.numerals.specs.Numerals.{Puts}
 
 pub counts : (n : ℕ) (l : List ℕ) → n ≤ length l → IsPrefixLen n l
@@ -72,31 +70,3 @@ module _ (old : List ℕ) (at : ℕ) (x y z : List ℕ) (h : at + length (x ++ y
 
       pub three-texts : (l3 : List ℕ) (r3 : ℕ) → Puts l2 r2 z l3 r3 → Puts old at (x ++ y ++ z) l3 r3
       three-texts l3 r3 s = two-texts old at (x ++ y) z h l2 l3 r2 r3 both s
-
--- ---- bytes copied one by one
-
-pub record Copied (old : List ℕ) (at : ℕ) (bs page : List ℕ) (i : ℕ) : Type 0 where
-  pub within : i ≤ length bs
-  pub bytes : page ≡ spliced old at (take i bs)
-  pub same : length page ≡ length old
-
-module _ (old : List ℕ) (at : ℕ) (bs : List ℕ) (h : at + length bs ≤ length old) where
-  pub copied_none : Copied old at bs old 0
-  copied_none = record { within = omega arith; bytes = sym (splice-nil old at); same = refl }
-
-  pub copied_more : (page : List ℕ) (i : ℕ) → Copied old at bs page i → i < length bs → Copied old at bs (set page (at + i) (get_or bs i 0)) (i + 1)
-  copied_more page i c l =
-      record {
-        within = omega arith;
-        bytes = (puts-byte old at (take i bs) page (at + i) (get_or bs i 0) (c.bytes, ap (λ (n : ℕ). at + n) (sym taken))
-            (omega (arith, length-append (take i bs) (get_or bs i 0 ∷ []), taken))).0 ∙ ap (spliced old at) (sym (rw (add-one i) (take-suc bs i 0 l)));
-        same = length-set page (at + i) (get_or bs i 0) ∙ c.same;
-      }
-    where
-      taken : length (take i bs) ≡ i
-      taken = length-take-le i bs (omega arith)
-
-  pub copied_all : (page : List ℕ) (i : ℕ) → Copied old at bs page i → length bs ≤ i → Puts old at bs page (at + i)
-  copied_all page i c l =
-      let e : i ≡ length bs = le_antisymm c.within l in
-      (c.bytes ∙ ap (spliced old at) (ap (λ (n : ℕ). take n bs) e ∙ take-length bs), ap (λ (n : ℕ). at + n) e)

@@ -11,12 +11,9 @@ pub fn put_bytes(page: &mut [u8], at: usize, bytes: &[u8]) -> usize
     requires { at + length bytes.now ≤ length page.old }
     ensures { Puts page.old at bytes.now page.new result }
 {
-    let mut i = 0;
-    while i < bytes.len() {
-        page[at + i] = bytes[i];
-        i += 1;
-    }
-    at + i
+    let end = at + bytes.len();
+    page[at..end].copy_from_slice(bytes);
+    end
 }
 
 // Bytes behind what the page holds, as far as there is room; gives the place behind them.
@@ -24,7 +21,7 @@ pub fn append(page: &mut [u8], at: usize, bytes: &[u8]) -> usize
     requires { at ≤ length page.old }
     ensures { Appends page.old at bytes.now page.new result × IsPrefixLen result page.new }
 {
-    let n = numbers::smaller(bytes.len(), page.len() - at);
+    let n = bytes.len().min(page.len() - at);
     put_bytes(page, at, &bytes[..n])
 }
 
@@ -52,13 +49,7 @@ pub fn append_phrase(page: &mut [u8], at: usize, before: &[u8], n: u64, after: &
 fn is_plain(byte: u8) -> bool
     ensures { result ≡ is_plain byte }
 {
-    if byte < 32 {
-        return false;
-    }
-    if byte == 127 {
-        return false;
-    }
-    byte != 92
+    32 <= byte && byte != 127 && byte != 92
 }
 
 // An octal digit.
@@ -90,10 +81,8 @@ pub fn append_name(page: &mut [u8], at: usize, name: &[u8]) -> usize
     ensures { Appends page.old at (shown_name name.now) page.new result × IsPrefixLen result page.new }
 {
     let mut end = at;
-    let mut i = 0;
-    while i < name.len() {
-        end = append_byte(page, end, name[i]);
-        i += 1;
+    for byte in name {
+        end = append_byte(page, end, *byte);
     }
     end
 }

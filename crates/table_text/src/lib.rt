@@ -31,10 +31,8 @@ pub fn append_table(page: &mut [u8], at: usize, table: &[u16; ENTRIES]) -> usize
     ensures { Appends page.old at (table_text table.now) page.new result × IsPrefixLen result page.new }
 {
     let mut end = at;
-    let mut depth = 0;
-    while depth < ENTRIES {
-        end = append_entry(page, end, depth, table[depth]);
-        depth += 1;
+    for (depth, entry) in table.iter().enumerate() {
+        end = append_entry(page, end, depth, *entry);
     }
     end
 }

@@ -107,10 +107,8 @@ fn repeated_place(i: usize, size: usize) -> usize {
 // A file whose one plunge is repeated until the file fills the buffer; head and end are the file's own.
 fn repeat(buf: &mut [u8], file: &[u8]) {
     let size = buf.len();
-    let mut i = 0;
-    while i < size {
-        buf[i] = byte_in(file, repeated_place(i, size));
-        i += 1;
+    for (i, byte) in buf.iter_mut().enumerate() {
+        *byte = byte_in(file, repeated_place(i, size));
     }
 }
 

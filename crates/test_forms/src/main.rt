@@ -35,23 +35,19 @@ fn print_mark(mark: bool) {
 
 // A mark for each cell, row after row.
 fn print_covered(kind: Kind, plunge: Plunge) {
-    let mut i = 0;
-    while i < CELLS {
+    for i in 0..CELLS {
         if i % SIDE == 0 {
             print_text(b" ");
         }
         print_mark(plunge.covers(kind, i % SIDE, i / SIDE));
-        i += 1;
     }
     print_text(b"\n");
 }
 
 fn print_balls(kind: Kind) {
-    let mut n = 0;
-    while n < BALLS {
+    for n in 0..BALLS {
         print_text(b"covers");
         print_covered(kind, plunge_of(n));
-        n += 1;
     }
 }
 
@@ -67,26 +63,22 @@ struct Tally {
 fn tally_inside(kind: Kind, other: Plunge) -> Tally {
     let mut count = 0;
     let mut sum = 0;
-    let mut n = 0;
-    while n < PLUNGES {
+    for n in 0..PLUNGES {
         if plunge_of(n).inside(kind, other) {
             count += 1;
             sum += (n as u32) + 1;
         }
-        n += 1;
     }
     Tally { count, sum }
 }
 
 fn print_inside(kind: Kind) {
-    let mut n = 0;
-    while n < PLUNGES {
+    for n in 0..PLUNGES {
         let tally = tally_inside(kind, plunge_of(n));
         print_text(b"inside");
         print_next(tally.count as u64);
         print_next(tally.sum as u64);
         print_text(b"\n");
-        n += 1;
     }
 }
 

@@ -4,7 +4,6 @@
 ghost use Rattle.std.specs.Prelude.{◌≤◌, length};
 ghost use Rattle.io.specs.Counts.{IsPrefixLen};
 
-use numbers::{smaller, wide};
 use refusal::Refusal;
 use scan::byte_in;
 
@@ -22,7 +21,7 @@ const SHORT: usize = 64;
 // ---- numbers
 
 pub fn word(high: u8, low: u8) -> u16 {
-    (high as u16) * 256 + (low as u16)
+    u16::from_be_bytes([high, low])
 }
 
 pub fn two_words(high: u16, low: u16) -> u32 {
@@ -33,7 +32,7 @@ pub fn two_words(high: u16, low: u16) -> u32 {
 pub fn part(buf: &[u8], n: usize) -> usize
     ensures { IsPrefixLen result buf.now }
 {
-    smaller(n, buf.len())
+    n.min(buf.len())
 }
 
 // ---- patterns of reliefs
@@ -74,26 +73,12 @@ fn column_byte(column: usize, value: u8) -> u8 {
     if column < 13 { value } else { 0 }
 }
 
-// How far one number lies below another, 0 at least.
-fn below(a: usize, b: usize) -> usize {
-    if a < b { b - a } else { 0 }
-}
-
-// The next number, of those that a side can be.
-fn after(n: usize) -> usize {
-    if n < 65536 { n + 1 } else { n }
-}
-
-fn byte_of(n: usize) -> u8 {
-    if n < 256 { n as u8 } else { 255 }
-}
-
 // The distance of a cell to the nearest side's far edge, 255 at most; 0 below the plate.
 fn dome_byte(column: usize, row: usize, width: usize, height: usize) -> u8 {
-    byte_of(smaller(
-        smaller(below(column, width), below(row, height)),
-        after(smaller(column, row)),
-    ))
+    let right = width.saturating_sub(column);
+    let low = height.saturating_sub(row);
+    let near = column.min(row).saturating_add(1);
+    right.min(low).min(near).min(255) as u8
 }
 
 // Six tiles of a plate of 240 by 240 cells, each 80 wide and 120 high: depths 1, 46, 91 above 76, 121, 1.
@@ -131,11 +116,9 @@ pub fn fill_relief(
     source: &[u8],
 ) {
     let mut state = seed as u16;
-    let mut i = 0;
-    while i < buf.len() {
+    for (i, byte) in buf.iter_mut().enumerate() {
         state = next_state(state);
-        buf[i] = relief_byte(i, state, pattern, seed, width, height, source);
-        i += 1;
+        *byte = relief_byte(i, state, pattern, seed, width, height, source);
     }
 }
 
@@ -167,13 +150,11 @@ pub fn print_refusal(refusal: Refusal) {
 
 // The bytes in hexadecimal, separated by blanks.
 fn print_whole(buf: &[u8]) {
-    let mut i = 0;
-    while i < buf.len() {
+    for (i, byte) in buf.iter().enumerate() {
         if 0 < i {
             print_text(b" ");
         }
-        io::print_hex(STDOUT_FILENO, wide(buf[i]) as u64, 2);
-        i += 1;
+        io::print_hex(STDOUT_FILENO, u64::from(*byte), 2);
     }
     print_text(b"\n");
 }
@@ -182,7 +163,7 @@ fn print_whole(buf: &[u8]) {
 fn weighted(b: u8, i: usize) -> usize
     ensures { result ≤ 65536 }
 {
-    wide(b) * (i % 251 + 1)
+    usize::from(b) * (i % 251 + 1)
 }
 
 // The sum of the bytes, and of the bytes times their weights.
@@ -197,11 +178,9 @@ fn sums_of(buf: &[u8]) -> Sums
 {
     let mut plain = 0;
     let mut sum = 0;
-    let mut i = 0;
-    while i < buf.len() {
-        plain += weighted(buf[i], 0);
-        sum += weighted(buf[i], i);
-        i += 1;
+    for (i, byte) in buf.iter().enumerate() {
+        plain += weighted(*byte, 0);
+        sum += weighted(*byte, i);
     }
     Sums {
         plain,
@@ -226,19 +205,12 @@ pub fn print_bytes(buf: &[u8]) {
 
 // Whether the bytes from a place on are as before the call.
 pub fn is_kept(buf: &[u8], from: usize) -> bool {
-    let mut i = from;
-    while i < buf.len() {
-        if buf[i] != UNTOUCHED {
-            return false;
-        }
-        i += 1;
-    }
-    true
+    buf.iter().skip(from).all(|byte| *byte == UNTOUCHED)
 }
 
 // Whether both are so.
 pub fn both(a: bool, b: bool) -> bool {
-    if a { b } else { false }
+    a && b
 }
 
 // What was looked at, and whether it is as before.

@@ -40,10 +40,8 @@ fn file_byte(s: &[u8], i: usize) -> u8 {
 }
 
 fn fill_file(file: &mut [u8], s: &[u8]) {
-    let mut i = 0;
-    while i < file.len() {
-        file[i] = file_byte(s, i);
-        i += 1;
+    for (i, byte) in file.iter_mut().enumerate() {
+        *byte = file_byte(s, i);
     }
 }
 

@@ -50,10 +50,8 @@ fn scan_byte(s: &[u8], i: usize) -> u8 {
 }
 
 fn fill_scan(scan: &mut [u8], s: &[u8]) {
-    let mut i = 0;
-    while i < scan.len() {
-        scan[i] = scan_byte(s, i);
-        i += 1;
+    for (i, byte) in scan.iter_mut().enumerate() {
+        *byte = scan_byte(s, i);
     }
 }
 

@@ -223,11 +223,9 @@ fn stepped(port: Port, input: Input) -> Port {
 // Takes the inputs that stand in some bytes; what is left of them is no input.
 fn run_steps(first: Port, s: &[u8]) {
     let mut port = first;
-    let mut i = 0;
     print_port(port);
-    while i < s.len() / INPUT {
-        port = stepped(port, input_in(between(s, INPUT * i, s.len())));
-        i += 1;
+    for input in s.chunks_exact(INPUT) {
+        port = stepped(port, input_in(input));
     }
 }
 
@@ -308,12 +306,10 @@ fn print_accepted(before: Port, name: &[u8], number: u64, answer: PortAnswer) {
 // Every value written to a byte.
 fn write_values(tally: Tally, port: Port, index: usize) -> Tally {
     let mut out = tally;
-    let mut value = 0;
-    while value < VALUES {
+    for value in 0..VALUES {
         let answer = port::write(port, index, numbers::low_byte(value));
         print_accepted(port, b", write", value as u64, answer);
         out = tallied(out, port, answer);
-        value += 1;
     }
     out
 }
@@ -321,10 +317,8 @@ fn write_values(tally: Tally, port: Port, index: usize) -> Tally {
 // Every status, and every value written to a byte.
 fn write_statuses(tally: Tally, port: Port, index: usize) -> Tally {
     let mut out = tally;
-    let mut status = 0;
-    while status < VALUES {
+    for status in 0..VALUES {
         out = write_values(out, with_status(port, numbers::low_byte(status)), index);
-        status += 1;
     }
     out
 }
@@ -332,13 +326,11 @@ fn write_statuses(tally: Tally, port: Port, index: usize) -> Tally {
 // Every status, and an event.
 fn event_statuses(tally: Tally, port: Port, number: u32) -> Tally {
     let mut out = tally;
-    let mut status = 0;
-    while status < VALUES {
+    for status in 0..VALUES {
         let before = with_status(port, numbers::low_byte(status));
         let answer = port::event(before, number);
         print_accepted(before, b", event", number as u64, answer);
         out = tallied(out, before, answer);
-        status += 1;
     }
     out
 }
@@ -355,28 +347,24 @@ fn no_answers() -> Tally {
 
 // Indices one after the other, each at every status with every value.
 fn run_writes(port: Port, first: u64, count: u32) {
-    let mut i = 0;
-    while i < count {
+    for i in 0..count {
         let index = std::num::wrapping_add_u64(first, i as u64);
         print_text(b"byte");
         print_next(index);
         print_text(b"\n");
         print_tally(write_statuses(no_answers(), port, index as usize));
-        i += 1;
     }
 }
 
 // Events one after the other, each at every status; one tally for all.
 fn run_events(port: Port, first: u64, count: u32) {
     let mut tally = no_answers();
-    let mut i = 0;
     print_text(b"events from");
     print_next(first);
     print_text(b"\n");
-    while i < count {
+    for i in 0..count {
         let number = low_half(std::num::wrapping_add_u64(first, i as u64));
         tally = event_statuses(tally, port, number);
-        i += 1;
     }
     print_tally(tally);
 }
@@ -481,17 +469,12 @@ fn print_run(run: Run) {
 
 // Whether the bytes are printed after so many inputs.
 fn is_due(inputs: u32, every: u32) -> bool {
-    if every == 0 {
-        false
-    } else {
-        inputs % every == 0
-    }
+    every != 0 && inputs % every == 0
 }
 
 fn run_inputs(first: Run, random: bool, count: u32, every: u32) {
     let mut run = first;
-    let mut i = 0;
-    while i < count {
+    for i in 0..count {
         if is_due(i, every) {
             print_run(run);
         }
@@ -501,7 +484,6 @@ fn run_inputs(first: Run, random: bool, count: u32, every: u32) {
             turn_input(i)
         };
         run = advanced(run, input);
-        i += 1;
     }
     print_run(run);
 }
@@ -520,11 +502,8 @@ fn run_long(record: Record, port: Port) {
 
 // Every byte of an output, some to a line.
 fn print_lines(out: &[u8]) {
-    let mut at = 0;
-    while at < out.len() {
-        let end = at + numbers::smaller(LINE, out.len() - at);
-        test_io::print_bytes(between(out, at, end));
-        at = end;
+    for line in out.chunks(LINE) {
+        test_io::print_bytes(line);
     }
 }
 

@@ -96,10 +96,8 @@ fn field_byte(i: usize, step: u8) -> u8 {
 }
 
 fn fill_steps(field: &mut [u8], step: u8) {
-    let mut i = 0;
-    while i < field.len() {
-        field[i] = field_byte(i, step);
-        i += 1;
+    for (i, byte) in field.iter_mut().enumerate() {
+        *byte = field_byte(i, step);
     }
 }
 
@@ -112,14 +110,8 @@ fn store(field: &mut [u8], at: usize, byte: u8) {
 
 // A patch is a place of two bytes and the byte to put there.
 fn patch(field: &mut [u8], patches: &[u8]) {
-    let mut i = 0;
-    while i + 2 < patches.len() {
-        store(
-            field,
-            size_of(word(patches[i], patches[i + 1])),
-            patches[i + 2],
-        );
-        i += 3;
+    for p in patches.chunks_exact(3) {
+        store(field, size_of(word(p[0], p[1])), p[2]);
     }
 }
 
@@ -141,10 +133,8 @@ fn fill_field(field: &mut [u8], record: Record, patches: &[u8]) {
 // The numbers of a field's content, whatever they are; bytes that are missing count as 0.
 fn table_in(field: &[u8]) -> [u16; ENTRIES] {
     let mut table = [0u16; ENTRIES];
-    let mut i = 0;
-    while i < ENTRIES {
-        table[i] = word(byte_in(field, 3 + 2 * i), byte_in(field, 4 + 2 * i));
-        i += 1;
+    for (i, entry) in table.iter_mut().enumerate() {
+        *entry = word(byte_in(field, 3 + 2 * i), byte_in(field, 4 + 2 * i));
     }
     table
 }

@@ -12,7 +12,6 @@ use lib.ListN.{length, get_or}
 use Rattle.geometry.specs.Lists.{gather}
 use Rattle.theory.proofs.Lists.{gather-more, gather-same, gather-few}
 use Rattle.fields.specs.Fields.{place}
-use Rattle.fields.proofs.Splice.{splice-nil}
 use Rattle.numerals.specs.Numerals.{Puts}
 use Rattle.geometry.specs.Sizes.{size_of}
 use Rattle.reading.proofs.Bytes.{head-numbers, plunge-numbers}
@@ -73,19 +72,6 @@ pub record Filled (part : ℕ → List ℕ) (parts from : ℕ) (old page : List 
   pub same : length page ≡ length old
 
 module _ (part : ℕ → List ℕ) (parts from : ℕ) (old : List ℕ) where
-  pub filled_none : from ≤ parts → Filled part parts from old old 0 from
-  filled_none h =
-      record {
-        onward = omega arith;
-        within = h;
-        put = subst (λ (n : ℕ). Puts old 0 (gather n from part) old 0) zeroes (sym (splice-nil old 0), refl);
-        fits = omega arith;
-        same = refl;
-      }
-    where
-      zeroes : 0 ≡ from - from
-      zeroes = omega arith
-
   -- one part more
   pub filled_more : (page new : List ℕ) (used next r : ℕ) → Filled part parts from old page used next → next < parts
       → Puts page used (part next) new r → used + length (part next) ≤ length old → Filled part parts from old new r (next + 1)
@@ -108,11 +94,6 @@ module _ (part : ℕ → List ℕ) (parts from : ℕ) (old : List ℕ) where
       more : gather (next + 1 - from) from part ≡ gather (next - from) from part ++ part next
       more = ap (λ (n : ℕ). gather n from part) count ∙ gather-more (next - from) from part
           ∙ ap (λ (n : ℕ). gather (next - from) from part ++ part n) there
-
-  pub filled-page : (room : ℕ) (page : List ℕ) (used next : ℕ) → Filled part parts from old page used next → (next < parts → length old < used + room)
-      → PageOf part parts room from old page (record { used = used; next = next })
-  filled-page room page used next f h =
-      record { onward = f.onward; within = f.within; bytes = f.put.0; used = f.put.1 ∙ zero-add _; full = h }
 
 -- ---- all lines together are the text
 

@@ -43,15 +43,13 @@ pub fn put_page(page: &mut [u8], file: &[u8], job: Job, from: usize) -> Page
     ensures { PageOf (line_at file.now) (line_count file.now) line_room from page.old page.new result × IsPrefixLen
         result.used page.new }
 {
-    let plunges = job.plunges;
+    let lines = job.plunges + 2;
     let mut used = 0;
-    let mut next = from;
-    while next <= plunges + 1 {
+    for next in from..lines {
         if page.len() - used < LINE {
             return Page { used, next };
         }
         used = put_line(page, used, file, job, next);
-        next += 1;
     }
-    Page { used, next }
+    Page { used, next: lines }
 }

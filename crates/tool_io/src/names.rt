@@ -60,21 +60,14 @@ pub fn label(rt: &HostRuntime, page: &mut [u8], number: usize, standard: &[u8]) 
 pub fn folder_length(name: &[u8]) -> usize
     ensures { IsPrefixLen result name.now }
 {
-    let mut i = name.len();
-    while 0 < i {
-        if name[i - 1] == b'/' {
-            return i;
-        }
-        i -= 1;
+    match name.iter().rposition(|b| *b == b'/') {
+        Some(i) => i + 1,
+        None => 0,
     }
-    0
 }
 
 fn is_absolute(name: &[u8]) -> bool {
-    if name.len() == 0 {
-        return false;
-    }
-    name[0] == b'/'
+    name.starts_with(b"/")
 }
 
 // A link's name becomes the one that it leads to.
@@ -108,31 +101,21 @@ pub fn follow_links(rt: &HostRuntime, name: &mut [u8], n: usize) -> usize
     ensures { IsPrefixLen result name.new }
 {
     let mut used = n;
-    let mut left: u32 = 40;
-    while 0 < left {
+    for _ in 0..40 {
         let next = follow_link(rt, name, used);
         if next == 0 {
             return used;
         }
         used = next;
-        left -= 1;
     }
     used
-}
-
-fn wide(byte: u8) -> u64
-    ensures { result < 256 }
-{
-    byte as u64
 }
 
 // A number that no other program is likely to take: 32 random bits.
 fn random_number(rt: &HostRuntime) -> u64 {
     let mut bytes = [0u8; 4];
     let _ = rt.fill_bytes(&mut bytes);
-    let high = wide(bytes[0]) * 256 + wide(bytes[1]);
-    let low = wide(bytes[2]) * 256 + wide(bytes[3]);
-    high * 65536 + low
+    u64::from(u32::from_be_bytes(bytes))
 }
 
 // A name for a new file in the folder of another; gives its length.

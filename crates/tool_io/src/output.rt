@@ -39,10 +39,7 @@ pub struct Output {
 
 // Whether a file is there that is neither a regular one nor missing: it is written in place.
 fn is_special(status: FileStatus) -> bool {
-    if !status.found {
-        return false;
-    }
-    status.mode & file_status::KIND != file_status::REGULAR
+    status.found && status.mode & file_status::KIND != file_status::REGULAR
 }
 
 // Whether a file may be replaced: it is missing, or a regular one that may be written. If not, the reason was said.
@@ -61,15 +58,11 @@ fn is_replaceable(rt: &HostRuntime, name: &[u8], status: FileStatus, about: &[u8
 
 // A file that is new under its name.
 fn create(rt: &HostRuntime, name: &[u8]) -> Result<File, Error> {
-    match text_of(name) {
-        Ok(text) => {
-            let mut options = OpenOptions::new();
-            options.write(true);
-            options.create_new(true);
-            options.open(rt, text)
-        }
-        Err(error) => Err(error),
-    }
+    let text = text_of(name)?;
+    let mut options = OpenOptions::new();
+    options.write(true);
+    options.create_new(true);
+    options.open(rt, text)
 }
 
 // A new file, or why there is none, and the length of its name.
@@ -104,13 +97,11 @@ fn create_beside(rt: &HostRuntime, name: &[u8], part: &mut [u8]) -> Part
     ensures { IsPrefixLen result.length part.new }
 {
     let mut made = create_one(rt, name, part);
-    let mut tries: u32 = 8;
-    while 0 < tries {
+    for _ in 0..8 {
         if !is_taken(&made.file) {
             return made;
         }
         made = create_one(rt, name, part);
-        tries -= 1;
     }
     made
 }
@@ -131,20 +122,14 @@ fn keep(file: File) -> Result<(), Error> {
 
 // A file, or the folder of that name.
 fn sync(rt: &HostRuntime, folder: &[u8]) -> Result<(), Error> {
-    match open_folder(rt, folder) {
-        Ok(file) => file.sync_all(),
-        Err(error) => Err(error),
-    }
+    open_folder(rt, folder)?.sync_all()
 }
 
 fn open_folder(rt: &HostRuntime, folder: &[u8]) -> Result<File, Error> {
-    if folder.len() == 0 {
+    if folder.is_empty() {
         return File::open(rt, ".");
     }
-    match text_of(folder) {
-        Ok(text) => File::open(rt, text),
-        Err(error) => Err(error),
-    }
+    File::open(rt, text_of(folder)?)
 }
 
 // The folder's entry too, as far as the system allows it: some file systems cannot.
@@ -154,22 +139,13 @@ fn keep_folder(rt: &HostRuntime, name: &[u8]) {
 }
 
 fn remove(rt: &HostRuntime, part: &[u8]) {
-    match text_of(part) {
-        Ok(text) => {
-            let _ = fs::remove_file(rt, text);
-        }
-        Err(_) => {}
+    if let Ok(text) = text_of(part) {
+        let _ = fs::remove_file(rt, text);
     }
 }
 
 fn rename(rt: &HostRuntime, part: &[u8], name: &[u8]) -> Result<(), Error> {
-    match text_of(part) {
-        Ok(from) => match text_of(name) {
-            Ok(to) => fs::rename(rt, from, to),
-            Err(error) => Err(error),
-        },
-        Err(error) => Err(error),
-    }
+    fs::rename(rt, text_of(part)?, text_of(name)?)
 }
 
 // Says why a new file could not take its place, and removes it.
@@ -181,13 +157,11 @@ fn fail_part(rt: &HostRuntime, part: &[u8], about: &[u8], error: &Error) -> bool
 
 // Puts a new file in the place of another. Gives whether it stands there; if not, the reason was said and nothing is left of it.
 fn replace(rt: &HostRuntime, file: File, part: &[u8], name: &[u8], about: &[u8]) -> bool {
-    match keep(file) {
-        Ok(()) => {}
-        Err(error) => return fail_part(rt, part, about, &error),
+    if let Err(error) = keep(file) {
+        return fail_part(rt, part, about, &error);
     }
-    match rename(rt, part, name) {
-        Ok(()) => {}
-        Err(error) => return fail_part(rt, part, about, &error),
+    if let Err(error) = rename(rt, part, name) {
+        return fail_part(rt, part, about, &error);
     }
     keep_folder(rt, name);
     true
@@ -223,10 +197,7 @@ fn in_file(file: File, sort: Sort, name: usize, part: usize) -> Output
 }
 
 fn overwrite(rt: &HostRuntime, name: &[u8]) -> Result<File, Error> {
-    match text_of(name) {
-        Ok(text) => File::create(rt, text),
-        Err(error) => Err(error),
-    }
+    File::create(rt, text_of(name)?)
 }
 
 // A device or a pipe.
@@ -290,10 +261,7 @@ fn open_name(
 
 // What stands under a name, if anything, or why that cannot be seen.
 fn seen(rt: &HostRuntime, word: Word, name: &[u8]) -> Result<FileStatus, Error> {
-    match words::whole(word) {
-        Ok(()) => {}
-        Err(error) => return Err(error),
-    }
+    words::whole(word)?;
     match file_status::find(rt, name) {
         Ok(status) => Ok(status),
         Err(error) => match error.kind() {

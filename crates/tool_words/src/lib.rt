@@ -117,10 +117,7 @@ pub fn given_command(rt: &HostRuntime) -> Command {
 // ---- options
 
 fn is_letter(byte: u8) -> bool {
-    if byte < b'a' {
-        return false;
-    }
-    byte <= b'z'
+    byte.is_ascii_lowercase()
 }
 
 // Whether a word looks like an option: one or two dashes and a letter. A number or a dash alone does not.
@@ -217,13 +214,7 @@ fn value_of(number: usize, count: usize) -> usize
 
 // A value that is missing, or an option that stands twice, is wrong.
 fn is_wrong(options: Options, before: usize, value: usize) -> bool {
-    if value == 0 {
-        return true;
-    }
-    if before != 0 {
-        return true;
-    }
-    options.wrong
+    value == 0 || before != 0 || options.wrong
 }
 
 fn with_output(options: Options, value: usize) -> Options {
@@ -295,14 +286,7 @@ pub fn given_options(rt: &HostRuntime) -> Options {
 // ---- plain words
 
 fn is_plain(word: Word) -> bool {
-    match word {
-        Word::Plain => true,
-        Word::Output => false,
-        Word::Kind => false,
-        Word::Table => false,
-        Word::Rungs => false,
-        Word::Unknown => false,
-    }
+    matches!(word, Word::Plain)
 }
 
 // The number of a plain word behind the command, the first being 0; 0 where there are not so many.
@@ -327,22 +311,7 @@ pub fn plain_word(rt: &HostRuntime, which: usize) -> usize {
 
 // Whether a command gives motions, and so has a scale before its input.
 pub fn is_motions(command: Command) -> bool {
-    match command {
-        Command::Motions => true,
-        Command::List => false,
-        Command::Draw => false,
-        Command::Tidy => false,
-        Command::Check => false,
-        Command::Show => false,
-        Command::Info => false,
-        Command::Same => false,
-        Command::Table => false,
-        Command::Scan => false,
-        Command::Picture => false,
-        Command::Help => false,
-        Command::Version => false,
-        Command::Unknown => false,
-    }
+    matches!(command, Command::Motions)
 }
 
 // Which plain word is the first input.
@@ -382,42 +351,12 @@ fn fits_plain(rt: &HostRuntime, command: Command) -> bool {
 
 // Whether a command makes a scan, which has a kind.
 fn makes_scan(command: Command) -> bool {
-    match command {
-        Command::Scan => true,
-        Command::List => false,
-        Command::Draw => false,
-        Command::Tidy => false,
-        Command::Check => false,
-        Command::Show => false,
-        Command::Info => false,
-        Command::Same => false,
-        Command::Motions => false,
-        Command::Table => false,
-        Command::Picture => false,
-        Command::Help => false,
-        Command::Version => false,
-        Command::Unknown => false,
-    }
+    matches!(command, Command::Scan)
 }
 
 // Whether a command climbs rungs and counts them.
 fn makes_list(command: Command) -> bool {
-    match command {
-        Command::List => true,
-        Command::Tidy => true,
-        Command::Scan => false,
-        Command::Draw => false,
-        Command::Check => false,
-        Command::Show => false,
-        Command::Info => false,
-        Command::Same => false,
-        Command::Motions => false,
-        Command::Table => false,
-        Command::Picture => false,
-        Command::Help => false,
-        Command::Version => false,
-        Command::Unknown => false,
-    }
+    matches!(command, Command::List | Command::Tidy)
 }
 
 // Whether a sink table stands where it means something, and is not read from where the job is.
@@ -436,20 +375,10 @@ fn fits_table(rt: &HostRuntime, command: Command, options: Options) -> bool {
 
 // Whether each option stands where it means something.
 fn fits_options(rt: &HostRuntime, command: Command, options: Options) -> bool {
-    if options.wrong {
-        return false;
-    }
-    if options.kind != 0 {
-        if !makes_scan(command) {
-            return false;
-        }
-    }
-    if options.rungs != 0 {
-        if !makes_list(command) {
-            return false;
-        }
-    }
-    fits_table(rt, command, options)
+    !options.wrong
+        && (options.kind == 0 || makes_scan(command))
+        && (options.rungs == 0 || makes_list(command))
+        && fits_table(rt, command, options)
 }
 
 // Without a name the input is standard input, but nobody is kept waiting at a terminal.

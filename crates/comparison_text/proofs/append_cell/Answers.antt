@@ -5,7 +5,7 @@ use Rattle.comparison_text.proofs.append_cell.Goals as goal
 pub returns : goal.returns
 returns c =
     let pre = c.requires in
-    rw (← c.wide.ensures, ← c.wide-2.ensures)
+    rw (← c.from.ensures, ← c.from-2.ensures)
     (appended_then pre
     (appended_then pre
     (appended_then pre c.append_phrase-x.ensures c.append_phrase-y.ensures)

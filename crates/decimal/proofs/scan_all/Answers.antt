@@ -1,22 +1,15 @@
-use Rattle.std.proofs.Common.{refl, ◌∙◌, arith}
-use Rattle.decimal.proofs.Scans.{bounded-begun, bounded-step, scanned-more, scanned-end}
+use Rattle.std.proofs.Common.{◌∙◌}
+use Rattle.decimal.proofs.Scans.{bounded-step, scanned-more, scanned-end}
 use Rattle.decimal.proofs.scan_all.Goals as goal
 
-pub loop-i-init : goal.loop-i-init
-loop-i-init c = (omega arith, bounded-begun, refl)
-
-pub step-s-requires : goal.step-s-requires
-step-s-requires c = c.loop-i.invariant.1
-
-pub loop-i-preserved : goal.loop-i-preserved
-loop-i-preserved c = (
-  omega arith,
-  rw c.step-s.ensures (bounded-step c.loop-i.s _ c.loop-i.invariant.1),
-  scanned-more c.args.text.now c.loop-i.i c.loop-i.s c.step-s.result
-      c.loop-i-test.true c.step-s.ensures ∙ c.loop-i.invariant.2,
-)
+pub loop-b-preserved : goal.loop-b-preserved
+loop-b-preserved c = record {
+  bounded = rw c.step-s.ensures (bounded-step c.loop-b.s _ c.loop-b.invariant.bounded);
+  same = scanned-more c.args.text.now c.loop-b.b-index c.loop-b.s c.step-s.result
+      c.loop-b-test.true c.step-s.ensures ∙ c.loop-b.invariant.same;
+}
 
 pub returns : goal.returns
 returns c =
-    scanned-end c.args.text.now c.loop-i.i c.loop-i.s c.loop-i-test.false ∙
-    c.loop-i.invariant.2
+    scanned-end c.args.text.now c.loop-b.b-index c.loop-b.s c.loop-b-test.false ∙
+    c.loop-b.invariant.same

@@ -13,28 +13,8 @@ loop-reach-init c =
     let given = c.args in
     lined-none given.page.now given.at c.requires.1 (plunges_in given.file.now)
 
-pub offset_bounds-counts-reach : goal.offset_bounds-counts-reach
-offset_bounds-counts-reach c = omega (arith, c.loop-reach-test.true)
-
-pub bounds-counts-reach : goal.bounds-counts-reach
-bounds-counts-reach c = omega (arith, c.loop-reach-test.true)
-
-pub bounds-least-reach : goal.bounds-least-reach
-bounds-least-reach c = omega (arith, c.loop-reach-test.true)
-
-pub bounds-greatest-reach : goal.bounds-greatest-reach
-bounds-greatest-reach c = omega (arith, c.loop-reach-test.true)
-
 pub append_found-end-requires : goal.append_found-end-requires
 append_found-end-requires c = c.loop-reach.invariant.counted.0
-
-pub overflow_add-reach : goal.overflow_add-reach
-overflow_add-reach c =
-    omega (arith, c.loop-reach-test.true)
-
-pub loop-reach-smaller : goal.loop-reach-smaller
-loop-reach-smaller c =
-    omega (arith, c.loop-reach-test.true)
 
 pub loop-reach-preserved : goal.loop-reach-preserved
 loop-reach-preserved c =
@@ -42,9 +22,6 @@ loop-reach-preserved c =
     lined-more given.page.now given.at c.requires.1 (plunges_in given.file.now) _ _ _
     c.tally.ensures _ _ _ _ _ c.loop-reach.invariant (omega (arith, c.loop-reach-test.true))
     c.append_found-end.ensures
-
-pub shape_of-page : goal.shape_of-page
-shape_of-page c = c.loop-reach.invariant.same
 
 pub returns : goal.returns
 returns c =

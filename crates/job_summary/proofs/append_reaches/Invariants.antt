@@ -1,12 +1,7 @@
 -- `append_reaches` puts the line of each reach that has plunges, rising.
 use Rattle.job_summary.proofs.Lines.{Lined}
-use Rattle.job_figures.specs.Passes.{reaches}
 use Rattle.reading.specs.Reading.{plunges_in}
-use Prim.Native.Nat.{◌-◌}
 use Rattle.job_summary.proofs.append_reaches.Given as goal
 
 abbrev pub invariant-loop-reach : goal.invariant-loop-reach
 invariant-loop-reach l = Lined l.initial.page l.at (plunges_in l.file) l.page l.end l.reach
-
-abbrev pub decreases-loop-reach : goal.decreases-loop-reach
-decreases-loop-reach l = reaches - l.reach

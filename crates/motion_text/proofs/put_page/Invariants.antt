@@ -1,5 +1,4 @@
 -- `put_page` puts the lines of plunge after plunge, as long as there is room.
-use Prim.Native.Nat.{◌-◌}
 use Rattle.reading.specs.Reading.{total}
 use Rattle.motion_text.specs.Lines.{lines_at}
 use Rattle.text.proofs.Pages.{Filled}
@@ -7,6 +6,3 @@ use Rattle.motion_text.proofs.put_page.Given as goal
 
 abbrev pub invariant-loop-next : goal.invariant-loop-next
 invariant-loop-next l = Filled (lines_at l.table l.file l.scale) (total l.file) l.from l.initial.page l.page l.used l.next
-
-abbrev pub decreases-loop-next : goal.decreases-loop-next
-decreases-loop-next l = total l.file - l.next

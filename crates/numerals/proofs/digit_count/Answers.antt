@@ -1,13 +1,7 @@
 use mathlib.Core.Path.{sym}
 use native.Mathlib.Omega.{arith}
-use Rattle.numerals.proofs.Sizes.{cut-none, cut-more, cut_all, numeral-length}
+use Rattle.numerals.proofs.Sizes.{cut-more, cut_all, numeral-length}
 use Rattle.numerals.proofs.digit_count.Goals as goal
-
-pub loop-rest-init : goal.loop-rest-init
-loop-rest-init c = cut-none c.args.n
-
-pub overflow_add-count : goal.overflow_add-count
-overflow_add-count c = omega (arith, c.loop-rest.invariant.bound)
 
 pub loop-rest-preserved : goal.loop-rest-preserved
 loop-rest-preserved c =

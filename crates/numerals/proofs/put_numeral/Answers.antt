@@ -1,21 +1,10 @@
 -- `put_numeral` puts as many digits as the number has.
 use mathlib.Core.Path.{sym, ap, ◌∙◌}
 use native.Mathlib.Omega.{arith}
-use lib.Dec.{lit≤}
 use Prim.Native.Nat.{ℕ, ◌+◌}
 use Rattle.fields.specs.Writing.{spliced}
 use Rattle.numerals.proofs.Sizes.{numeral-digits, numeral-size}
 use Rattle.numerals.proofs.put_numeral.Goals as goal
-
-pub put_digits-requires : goal.put_digits-requires
-put_digits-requires c =
-    let l = c.digit_count-count.ensures in
-    (lit≤ tt, lit≤ tt, omega (arith, l))
-
-pub overflow_add-result : goal.overflow_add-result
-overflow_add-result c =
-    let l = c.digit_count-count.ensures in
-    omega (arith, l)
 
 pub returns : goal.returns
 returns c =

@@ -1,5 +1,5 @@
 -- The next record begins behind this one.
-use Rattle.std.proofs.Common.{◌-◌, length, rules}
+use Rattle.std.proofs.Common.{◌-◌, length}
 use Rattle.test_port.proofs.run_records.Given as goal
 
 abbrev pub invariant-loop-at : goal.invariant-loop-at

@@ -1,7 +1,6 @@
 -- The next record begins behind this one.
 use Prim.Native.Nat.{◌-◌}
 use lib.ListN.{length}
-use borrow.Author.Rules.{rules}
 use Rattle.test_tables.proofs.run_records.Given as goal
 
 abbrev pub invariant-loop-at : goal.invariant-loop-at
