@@ -27,13 +27,6 @@ pub enum Step {
     Fault(Refusal),
 }
 
-// A byte as a side, a column, a row or a reach.
-fn wide(byte: u8) -> u16
-    ensures { result ≡ byte }
-{
-    byte as u16
-}
-
 // ---- the head
 
 // Refusals 1 and 2 in their order.
@@ -55,7 +48,7 @@ fn check_head(file: &[u8]) -> Verdict
 {
     let head = reading_fields::head_opening(Size::Small);
     reading_fields::check_open(file, 0, head, head)?;
-    check_plate(file[3], wide(file[4]), wide(file[5]))
+    check_plate(file[3], u16::from(file[4]), u16::from(file[5]))
 }
 
 // The head of a file whose head's field refuses nothing.
@@ -63,7 +56,7 @@ pub fn head_in(file: &[u8]) -> Head
     requires { first_met (head_trials file.now) ≡ Ok tt }
     ensures { result ≡ head_in file.now }
 {
-    refusal::head_of(file[3], wide(file[4]), wide(file[5]))
+    refusal::head_of(file[3], u16::from(file[4]), u16::from(file[5]))
 }
 
 // ---- a plunge's field
@@ -87,9 +80,9 @@ fn small_plunge(file: &[u8], at: usize) -> Option<Plunge>
     ensures { result ≡ plunge_if Small file.now at }
 {
     plunge_of(
-        wide(file[at + 3]),
-        wide(file[at + 4]),
-        wide(file[at + 5]),
+        u16::from(file[at + 3]),
+        u16::from(file[at + 4]),
+        u16::from(file[at + 5]),
         file[at + 6],
     )
 }

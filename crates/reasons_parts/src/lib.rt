@@ -10,19 +10,10 @@ ghost use Rattle.reasons_parts.specs.Parts.{kind_reason, sides_reason, long_reas
 pub fn byte_behind(file: &[u8], place: usize, i: usize) -> u64
     ensures { (result ≡ get_or file.now (place + i) 0) × (result < 256) }
 {
-    if place < file.len() {
-        if i < file.len() - place {
-            return wide(file[place + i]);
-        }
+    if place < file.len() && i < file.len() - place {
+        return u64::from(file[place + i]);
     }
     0
-}
-
-// A byte as a number.
-fn wide(byte: u8) -> u64
-    ensures { (result ≡ byte) × (result < 256) }
-{
-    byte as u64
 }
 
 // ---- faults of a plate and of an answer

@@ -14,13 +14,6 @@ use row_arrays::{MARGIN, ROW_PLACES};
 // The number of a wall, from which distances are taken off.
 pub const WIDE_WALL: u16 = 65535;
 
-// The higher of two numbers.
-pub fn higher(a: u16, b: u16) -> u16
-    ensures { result ≡ max a b }
-{
-    a.max(b)
-}
-
 // ---- the start
 
 // The number of a wall where a depth is below the level, else 0.

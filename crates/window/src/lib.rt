@@ -9,57 +9,32 @@ ghost use Rattle.window.specs.Places.{largest_word, before, window_in, Inner, cr
 
 use geometry::{Head, Kind};
 
-pub fn lower(a: u8, b: u8) -> u8
-    ensures { result ≡ min a b }
-{
-    if a < b { a } else { b }
-}
-
-pub fn higher(a: u8, b: u8) -> u8
-    ensures { result ≡ max a b }
-{
-    if b < a { a } else { b }
-}
-
-// The difference of two bytes, 0 at least.
-pub fn less(a: u8, b: u8) -> u8
-    ensures { result ≡ a - b }
-{
-    if b < a { a - b } else { 0 }
-}
-
 // The lowest of the middle and the four that share a side with it.
 fn cross_min(win: [[u8; 3]; 3]) -> u8
     ensures { result ≡ cross_of min win }
 {
-    lower(
-        lower(win[0][1], win[2][1]),
-        lower(lower(win[1][0], win[1][2]), win[1][1]),
-    )
+    win[0][1].min(win[2][1]).min(win[1][0].min(win[1][2]).min(win[1][1]))
 }
 
 // The lowest of the four corners.
 fn corners_min(win: [[u8; 3]; 3]) -> u8
     ensures { result ≡ corners_of min win }
 {
-    lower(lower(win[0][0], win[0][2]), lower(win[2][0], win[2][2]))
+    win[0][0].min(win[0][2]).min(win[2][0].min(win[2][2]))
 }
 
 // The highest of the middle and the four that share a side with it.
 fn cross_max(win: [[u8; 3]; 3]) -> u8
     ensures { result ≡ cross_of max win }
 {
-    higher(
-        higher(win[0][1], win[2][1]),
-        higher(higher(win[1][0], win[1][2]), win[1][1]),
-    )
+    win[0][1].max(win[2][1]).max(win[1][0].max(win[1][2]).max(win[1][1]))
 }
 
 // The highest of the four corners.
 fn corners_max(win: [[u8; 3]; 3]) -> u8
     ensures { result ≡ corners_of max win }
 {
-    higher(higher(win[0][0], win[0][2]), higher(win[2][0], win[2][2]))
+    win[0][0].max(win[0][2]).max(win[2][0].max(win[2][2]))
 }
 
 // The lowest of a window among the middle cell and its neighbours.
@@ -68,7 +43,7 @@ pub fn window_min(kind: Kind, win: [[u8; 3]; 3]) -> u8
 {
     match kind {
         Kind::Diamond => cross_min(win),
-        Kind::Square => lower(cross_min(win), corners_min(win)),
+        Kind::Square => cross_min(win).min(corners_min(win)),
     }
 }
 
@@ -78,7 +53,7 @@ pub fn window_max(kind: Kind, win: [[u8; 3]; 3]) -> u8
 {
     match kind {
         Kind::Diamond => cross_max(win),
-        Kind::Square => higher(cross_max(win), corners_max(win)),
+        Kind::Square => cross_max(win).max(corners_max(win)),
     }
 }
 
@@ -89,18 +64,12 @@ fn at_before(head: Head, map: &[u8], i: usize, j: usize) -> u8
 {
     let width = head.width as usize;
     let height = head.height as usize;
-    if i == 0 {
-        return 0;
-    }
-    if j == 0 {
+    if i == 0 || j == 0 {
         return 0;
     }
     let column = i - 1;
     let row = j - 1;
-    if width <= column {
-        return 0;
-    }
-    if height <= row {
+    if width <= column || height <= row {
         return 0;
     }
     let number = row * width + column;
@@ -161,11 +130,5 @@ pub fn is_inner(head: Head, row: u16) -> bool
     requires { row < head.height }
     ensures { result ≡ true → Inner head row }
 {
-    if row == 0 {
-        return false;
-    }
-    if head.height - 1 <= row {
-        return false;
-    }
-    2 < head.width
+    0 < row && row < head.height - 1 && 2 < head.width
 }
