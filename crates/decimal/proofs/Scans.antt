@@ -1,10 +1,11 @@
 -- Reading byte by byte gives what the whole text denotes.
+use Rattle.std.specs.Prelude.{Result, Ok, Err}
 use Rattle.std.proofs.Common.{◌≡◌, ℕ, zero, suc, ◌+◌, ◌-◌, ◌*◌, ◌^◌, ◌<◌, ◌≤◌, Bool, true, false, cond, eqb, ltb, leb, List, [], ◌∷◌, length, get_or, drop, sym, refl, ap, ◌∙◌, le_trans, lt_of_lt_of_le, add-zero, le_of_lt, zero-lt-suc, mul_assoc, one-mul, pow-suc, mul-one, add-one, arith, lit<, lit≤, drop_of_length-le, drop-cons, ltb-false, le-ltb, lt-ltb, eq-eqb, ne_eqb, eqb-true, leb-true}
 use native.Mathlib.Nat.{pow-succ', pow-le-pow_right}
 use borrow.Author.Tests.{lt-leb}
 use lib.Ieee.{Float, binary64, round}
-use Rattle.decimal.specs.declared.Decimal.{Decimal}
-use Rattle.decimal.specs.declared.Decimal.TheVariants.{Number, NotNumber, TooLong}
+use Rattle.decimal.specs.declared.DecimalFault.{DecimalFault}
+use Rattle.decimal.specs.declared.DecimalFault.TheVariants.{NotNumber, TooLong}
 use Rattle.decimal.specs.declared.Scan.{Scan}
 use Rattle.decimal.specs.Decimal.{is_digit, are_digits, value_after, fraction_part, digits_in, of_digits, unsigned_of}
 use Rattle.decimal.specs.Scan.{Bounded, begun, spoiled, pointed, with_digit, scanned_byte, scanned}
@@ -126,11 +127,11 @@ places_of true u = length u
 places_of false u = length (fraction_part u)
 
 -- what a text denotes of which s was read, and u is left
-unfoldable answer : Bool → Scan → List ℕ → Decimal
+unfoldable answer : Bool → Scan → List ℕ → Result Float DecimalFault
 answer n s u =
     cond (cond s.good (are_digits (rest_of s.point u)) false)
     (of_digits n (s.count + length (rest_of s.point u)) (value_after s.digits (rest_of s.point u)) (s.unit * 10 ^ places_of s.point u))
-    NotNumber
+    (Err NotNumber)
 
 rest_more : (p : Bool) (b : ℕ) (u : List ℕ) → eqb b 46 ≡ false → rest_of p (b ∷ u) ≡ b ∷ rest_of p u
 rest_more true b u e = refl
@@ -140,10 +141,10 @@ units-more : (p : Bool) (unit b : ℕ) (u : List ℕ) → eqb b 46 ≡ false →
 units-more true unit b u e = ap (λ (x : ℕ). unit * x) (pow-succ' 10 (length u)) ∙ sym (mul_assoc unit 10 (10 ^ length u))
 units-more false unit b u e = rw (e, mul-one unit)
 
-many : (n : Bool) (count digits unit : ℕ) → 15 < count → of_digits n count digits unit ≡ TooLong
+many : (n : Bool) (count digits unit : ℕ) → 15 < count → of_digits n count digits unit ≡ (Err TooLong)
 many n count digits unit h = rw (ne_eqb count 0 (λ z. omega arith), lt-ltb 15 count h)
 
-never : (g : Bool) (d : Decimal) → cond (cond g false false) d NotNumber ≡ NotNumber
+never : (g : Bool) (d : Result Float DecimalFault) → cond (cond g false false) d (Err NotNumber) ≡ (Err NotNumber)
 never true d = refl
 never false d = refl
 
@@ -156,7 +157,7 @@ answer-digit n s b u e =
         → cond (cond s.good (are_digits (rest_of s.point u)) false)
         (of_digits n (s.count + suc (length (rest_of s.point u))) (value_after (10 * s.digits + (b - 48)) (rest_of s.point u))
         (s.unit * cond s.point 10 1 * 10 ^ places_of s.point u))
-        NotNumber
+        (Err NotNumber)
         ≡ answer n (cond t
         (record { digits = 10 * s.digits + (b - 48); unit = s.unit * cond s.point 10 1; count = s.count + 1; point = s.point; good = s.good })
         (record { digits = 0; unit = 1; count = 16; point = s.point; good = s.good })) u
@@ -180,7 +181,7 @@ answer-point n s b u e = go s.point
   where
     go : (p : Bool) → cond (cond s.good (are_digits (rest_of p (b ∷ u))) false)
         (of_digits n (s.count + length (rest_of p (b ∷ u))) (value_after s.digits (rest_of p (b ∷ u))) (s.unit * 10 ^ places_of p (b ∷ u)))
-        NotNumber
+        (Err NotNumber)
         ≡ answer n (cond p (record { digits = s.digits; unit = s.unit; count = s.count; point = p; good = false })
         (record { digits = s.digits; unit = s.unit; count = s.count; point = true; good = s.good })) u
     go true = rw (point-no-digit b e) (never s.good _)
@@ -208,13 +209,13 @@ answer-begun n u = rw (zero-plus (length (digits_in u)), one-mul (10 ^ length (f
     zero-plus : (k : ℕ) → 0 + k ≡ k
     zero-plus k = omega arith
 
-answer-end : (n : Bool) (s : Scan) → answer n s [] ≡ cond s.good (of_digits n s.count s.digits s.unit) NotNumber
+answer-end : (n : Bool) (s : Scan) → answer n s [] ≡ cond s.good (of_digits n s.count s.digits s.unit) (Err NotNumber)
 unfolding answer
 answer-end n s = go s.point s.good
   where
     go : (p g : Bool) → cond (cond g (are_digits (rest_of p [])) false)
-        (of_digits n (s.count + length (rest_of p [])) (value_after s.digits (rest_of p [])) (s.unit * 10 ^ places_of p [])) NotNumber
-        ≡ cond g (of_digits n s.count s.digits s.unit) NotNumber
+        (of_digits n (s.count + length (rest_of p [])) (value_after s.digits (rest_of p [])) (s.unit * 10 ^ places_of p [])) (Err NotNumber)
+        ≡ cond g (of_digits n s.count s.digits s.unit) (Err NotNumber)
     go true true = rw (add-zero s.count, mul-one s.unit)
     go false true = rw (add-zero s.count, mul-one s.unit)
     go true false = refl
@@ -222,21 +223,21 @@ answer-end n s = go s.point s.good
 
 -- ---- what was read of a whole text
 
-pub ended : (n : Bool) (u : List ℕ) (s : Scan) → s ≡ scanned begun u → cond s.good (of_digits n s.count s.digits s.unit) NotNumber ≡ unsigned_of n u
+pub ended : (n : Bool) (u : List ℕ) (s : Scan) → s ≡ scanned begun u → cond s.good (of_digits n s.count s.digits s.unit) (Err NotNumber) ≡ unsigned_of n u
 ended n u s e = sym (answer-end n s) ∙ ap (λ (t : Scan). answer n t []) e ∙ sym (answer-all n u begun) ∙ sym (answer-begun n u)
 
-pub not_good : (n : Bool) (u : List ℕ) (s : Scan) → s ≡ scanned begun u → s.good ≡ false → NotNumber ≡ unsigned_of n u
+pub not_good : (n : Bool) (u : List ℕ) (s : Scan) → s ≡ scanned begun u → s.good ≡ false → (Err NotNumber) ≡ unsigned_of n u
 not_good n u s e g = rw g at (ended n u s e)
 
-pub no_digit : (n : Bool) (u : List ℕ) (s : Scan) → s ≡ scanned begun u → s.good ≡ true → s.count ≡ 0 → NotNumber ≡ unsigned_of n u
+pub no_digit : (n : Bool) (u : List ℕ) (s : Scan) → s ≡ scanned begun u → s.good ≡ true → s.count ≡ 0 → (Err NotNumber) ≡ unsigned_of n u
 no_digit n u s e g z = rw (g, eq-eqb s.count 0 z) at (ended n u s e)
 
-pub too_long : (n : Bool) (u : List ℕ) (s : Scan) → s ≡ scanned begun u → s.good ≡ true → 15 < s.count → TooLong ≡ unsigned_of n u
+pub too_long : (n : Bool) (u : List ℕ) (s : Scan) → s ≡ scanned begun u → s.good ≡ true → 15 < s.count → (Err TooLong) ≡ unsigned_of n u
 too_long n u s e g h = rw (g, many n s.count s.digits s.unit h) at (ended n u s e)
 
 pub number : (n : Bool) (u : List ℕ) (s : Scan) (x : Float) → s ≡ scanned begun u → s.good ≡ true → (s.count ≡ 0 → ⊥) → s.count ≤ 15
-    → x ≡ round binary64 n s.digits s.unit → Number x ≡ unsigned_of n u
-number n u s x e g z h r = ap Number r ∙ (rw (g, ne_eqb s.count 0 z, le-ltb 15 s.count h) at (ended n u s e))
+    → x ≡ round binary64 n s.digits s.unit → Ok x ≡ unsigned_of n u
+number n u s x e g z h r = ap Ok r ∙ (rw (g, ne_eqb s.count 0 z, le-ltb 15 s.count h) at (ended n u s e))
 
 -- no more than 15 digits: a quotient's two numbers
 pub short : (u : List ℕ) (s : Scan) → s ≡ scanned begun u → s.count ≤ 15 → (s.digits ≤ 10 ^ 15) × (0 < s.unit) × (s.unit ≤ 10 ^ 15)

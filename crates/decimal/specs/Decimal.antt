@@ -1,9 +1,9 @@
 -- To be believed: what decimal text denotes: an optional '-', then digits with at most one point among them, at least one digit in all, nothing else.
-use Rattle.std.specs.Prelude.{ℕ, ◌+◌, ◌-◌, ◌*◌, ◌^◌, Bool, true, false, cond, List, [], ◌∷◌, ◌++◌, length, drop, ◌==◌, nat_le, nat_lt, slice_index}
+use Rattle.std.specs.Prelude.{ℕ, ◌+◌, ◌-◌, ◌*◌, ◌^◌, Bool, true, false, cond, List, [], ◌∷◌, ◌++◌, length, drop, ◌==◌, nat_le, nat_lt, slice_index, Result, Ok, Err, Float}
 use Rattle.std.specs.Float.{binary64}
 use Rattle.std.specs.Float.Ieee.{round}
-use Rattle.decimal.specs.declared.Decimal.{Decimal}
-use Rattle.decimal.specs.declared.Decimal.TheVariants.{Number, NotNumber, TooLong}
+use Rattle.decimal.specs.declared.DecimalFault.{DecimalFault}
+use Rattle.decimal.specs.declared.DecimalFault.TheVariants.{NotNumber, TooLong}
 
 -- '0' to '9'
 abbrev pub is_digit : ℕ → Bool
@@ -32,17 +32,17 @@ abbrev pub digits_in : List ℕ → List ℕ
 digits_in u = whole_part u ++ fraction_part u
 
 -- count digits that make one number, over a unit: the nearest float, if there is a digit and there are no more than 15
-abbrev pub of_digits : Bool → ℕ → ℕ → ℕ → Decimal
+abbrev pub of_digits : Bool → ℕ → ℕ → ℕ → Result Float DecimalFault
 of_digits negative count digits unit =
-    cond (count == 0) NotNumber (cond (nat_lt 15 count) TooLong (Number (round binary64 negative digits unit)))
+    cond (count == 0) (Err NotNumber) (cond (nat_lt 15 count) (Err TooLong) (Ok (round binary64 negative digits unit)))
 
 -- a number without its sign: its digits as one number, over ten for each place after the point
-unfoldable pub unsigned_of : Bool → List ℕ → Decimal
+unfoldable pub unsigned_of : Bool → List ℕ → Result Float DecimalFault
 unsigned_of negative u =
     cond (are_digits (digits_in u))
     (of_digits negative (length (digits_in u)) (value_after 0 (digits_in u)) (10 ^ length (fraction_part u)))
-    NotNumber
+    (Err NotNumber)
 
 -- with a '-' before it, or without
-abbrev pub decimal_of : List ℕ → Decimal
+abbrev pub decimal_of : List ℕ → Result Float DecimalFault
 decimal_of s = cond (slice_index s 0 == 45) (unsigned_of true (drop 1 s)) (unsigned_of false s)

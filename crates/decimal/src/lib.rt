@@ -7,10 +7,9 @@ ghost use Rattle.std.specs.Float.Ieee.{round};
 ghost use Rattle.decimal.specs.Decimal.{is_digit, decimal_of, unsigned_of};
 ghost use Rattle.decimal.specs.Scan.{Bounded, begun, spoiled, pointed, with_digit, scanned_byte, scanned};
 
-// What a text is: the nearest float, no number, or a number of more than 15 digits.
+// Why a text gives no float: it is no number, or a number of more than 15 digits.
 #[derive(Clone, Copy)]
-pub enum Decimal {
-    Number(f64),
+pub enum DecimalFault {
     NotNumber,
     TooLong,
 }
@@ -118,21 +117,21 @@ fn quotient(negative: bool, digits: u64, unit: u64) -> f64
 }
 
 // A number without its sign.
-fn unsigned(text: &[u8], negative: bool) -> Decimal
+fn unsigned(text: &[u8], negative: bool) -> Result<f64, DecimalFault>
     ensures { result ≡ unsigned_of negative text.now }
 {
     let s = scan_all(text);
     if !s.good || s.count == 0 {
-        return Decimal::NotNumber;
+        return Err(DecimalFault::NotNumber);
     }
     if 15 < s.count {
-        return Decimal::TooLong;
+        return Err(DecimalFault::TooLong);
     }
-    Decimal::Number(quotient(negative, s.digits, s.unit))
+    Ok(quotient(negative, s.digits, s.unit))
 }
 
 // An optional '-', then digits with at most one point among them, at least one digit in all, and nothing else.
-pub fn number_of(text: &[u8]) -> Decimal
+pub fn number_of(text: &[u8]) -> Result<f64, DecimalFault>
     ensures { result ≡ decimal_of text.now }
 {
     match text {

@@ -1,4 +1,5 @@
 -- Some texts and some floats, and what the definitions make of them.
+use Rattle.std.specs.Prelude.{Result, Ok, Err}
 use mathlib.Core.Path.{◌≡◌, refl}
 use mathlib.Core.Bool.{true, false}
 use mathlib.Core.List.{List, [], ◌∷◌}
@@ -6,34 +7,34 @@ use Prim.Native.Nat.{ℕ}
 use lib.IntN.{pos, negsuc}
 use lib.Ieee.{Float, nan, fin, round, le, lt, is_nan, to_bits}
 use Rattle.numerals.specs.Numerals.{numeral_within, numeral}
-use Rattle.decimal.specs.declared.Decimal.{Decimal}
-use Rattle.decimal.specs.declared.Decimal.TheVariants.{Number, NotNumber, TooLong}
+use Rattle.decimal.specs.declared.DecimalFault.{DecimalFault}
+use Rattle.decimal.specs.declared.DecimalFault.TheVariants.{NotNumber, TooLong}
 use Rattle.decimal.specs.Decimal.{unsigned_of, decimal_of}
 use Rattle.decimal_text.specs.Digits.{parts_of, digits_from, shortest_digits}
 use Rattle.decimal_text.specs.Text.{number_text}
 
 -- each text beside what it denotes
-abbrev AllDenote : List ((List ℕ) × Decimal) → Type 0
+abbrev AllDenote : List ((List ℕ) × Result Float DecimalFault) → Type 0
 AllDenote [] = Unit {0}
 AllDenote (c ∷ cs) = (decimal_of c.0 ≡ c.1) × AllDenote cs
 
 -- "0.5", "12.75", "1000", "-1", "0.1", "-0", ".5", "5."; "", ".", "-", "1.2.3", "1e3", "+1"; sixteen digits
 texts : AllDenote (
-    (48 ∷ 46 ∷ 53 ∷ [], Number (fin false 1 (negsuc 0))) ∷
-    (49 ∷ 50 ∷ 46 ∷ 55 ∷ 53 ∷ [], Number (fin false 51 (negsuc 1))) ∷
-    (49 ∷ 48 ∷ 48 ∷ 48 ∷ [], Number (fin false 125 (pos 3))) ∷
-    (45 ∷ 49 ∷ [], Number (fin true 1 (pos 0))) ∷
-    (48 ∷ 46 ∷ 49 ∷ [], Number (fin false 3602879701896397 (negsuc 54))) ∷
-    (45 ∷ 48 ∷ [], Number (fin true 0 (pos 0))) ∷
-    (46 ∷ 53 ∷ [], Number (fin false 1 (negsuc 0))) ∷
-    (53 ∷ 46 ∷ [], Number (fin false 5 (pos 0))) ∷
-    ([], NotNumber) ∷
-    (46 ∷ [], NotNumber) ∷
-    (45 ∷ [], NotNumber) ∷
-    (49 ∷ 46 ∷ 50 ∷ 46 ∷ 51 ∷ [], NotNumber) ∷
-    (49 ∷ 101 ∷ 51 ∷ [], NotNumber) ∷
-    (43 ∷ 49 ∷ [], NotNumber) ∷
-    (48 ∷ 48 ∷ 48 ∷ 48 ∷ 48 ∷ 48 ∷ 48 ∷ 48 ∷ 48 ∷ 48 ∷ 48 ∷ 48 ∷ 48 ∷ 48 ∷ 48 ∷ 48 ∷ [], TooLong) ∷
+    (48 ∷ 46 ∷ 53 ∷ [], Ok (fin false 1 (negsuc 0))) ∷
+    (49 ∷ 50 ∷ 46 ∷ 55 ∷ 53 ∷ [], Ok (fin false 51 (negsuc 1))) ∷
+    (49 ∷ 48 ∷ 48 ∷ 48 ∷ [], Ok (fin false 125 (pos 3))) ∷
+    (45 ∷ 49 ∷ [], Ok (fin true 1 (pos 0))) ∷
+    (48 ∷ 46 ∷ 49 ∷ [], Ok (fin false 3602879701896397 (negsuc 54))) ∷
+    (45 ∷ 48 ∷ [], Ok (fin true 0 (pos 0))) ∷
+    (46 ∷ 53 ∷ [], Ok (fin false 1 (negsuc 0))) ∷
+    (53 ∷ 46 ∷ [], Ok (fin false 5 (pos 0))) ∷
+    ([], (Err NotNumber)) ∷
+    (46 ∷ [], (Err NotNumber)) ∷
+    (45 ∷ [], (Err NotNumber)) ∷
+    (49 ∷ 46 ∷ 50 ∷ 46 ∷ 51 ∷ [], (Err NotNumber)) ∷
+    (49 ∷ 101 ∷ 51 ∷ [], (Err NotNumber)) ∷
+    (43 ∷ 49 ∷ [], (Err NotNumber)) ∷
+    (48 ∷ 48 ∷ 48 ∷ 48 ∷ 48 ∷ 48 ∷ 48 ∷ 48 ∷ 48 ∷ 48 ∷ 48 ∷ 48 ∷ 48 ∷ 48 ∷ 48 ∷ 48 ∷ [], (Err TooLong)) ∷
     []
     )
 unfolding unsigned_of round

@@ -1,4 +1,5 @@
 -- What is put for a float is read as the same float, where it has no more digits than are read.
+use Rattle.std.specs.Prelude.{Ok}
 use mathlib.Core.Path.{◌≡◌, refl, ap, ap₂, ◌∙◌}
 use mathlib.Core.Bool.{Bool, true, false, cond}
 use mathlib.Core.List.{List, [], ◌∷◌, ◌++◌, append-nil}
@@ -13,7 +14,6 @@ use Rattle.numerals.specs.Numerals.{digit_byte, digit_text, numeral}
 use Rattle.numerals.specs.Sizes.{IsSize}
 use Rattle.numerals.proofs.Digits.{digits-length}
 use Rattle.numerals.proofs.Sizes.{size-exists, numeral-digits, numeral-length}
-use Rattle.decimal.specs.declared.Decimal.TheVariants.{Number}
 use Rattle.decimal_text.specs.declared.Digits.{Digits}
 use Rattle.decimal_text.specs.declared.Parts.{Parts}
 use Rattle.decimal.specs.Decimal.{is_digit, are_digits, value_after, whole_part, fraction_part, digits_in, unsigned_of, decimal_of}
@@ -90,7 +90,7 @@ no_sign (b ∷ xs) ys e h = ne_eqb b 45 (λ z. omega (arith, z, digit-least b (d
 
 -- a text of a whole number and a fraction
 read-parts : (t xs ys : List ℕ) → are_digits xs ≡ true → are_digits ys ≡ true → whole_part t ≡ xs → fraction_part t ≡ ys → 0 < length xs
-    → length (digits_in t) ≤ 15 → unsigned_of false t ≡ Number (round binary64 false (value_after 0 (xs ++ ys)) (10 ^ length ys))
+    → length (digits_in t) ≤ 15 → unsigned_of false t ≡ Ok (round binary64 false (value_after 0 (xs ++ ys)) (10 ^ length ys))
 unfolding unsigned_of
 read-parts t xs ys e f p q h l =
     let m : length (xs ++ ys) ≤ 15 = rw (p, q) at l in
@@ -129,7 +129,7 @@ numeral-read n h =
     }
 
 -- a text that shows a float is read as it
-shown_read : (x : Float) (p : Parts) (bs : List ℕ) → Shown x p bs → p.whole < 18446744073709551616 → length (digits_in bs) ≤ 15 → decimal_of bs ≡ Number x
+shown_read : (x : Float) (p : Parts) (bs : List ℕ) → Shown x p bs → p.whole < 18446744073709551616 → length (digits_in bs) ≤ 15 → decimal_of bs ≡ Ok x
 shown_read x p bs s h l =
     let d = s.digits in
     let w = numeral-read p.whole h in
@@ -141,11 +141,11 @@ shown_read x p bs s h l =
     value-join 0 D E ∙ ap (λ (a : ℕ). value_after a E) w.value ∙ text-value p.whole d.count d.number s.proper in
     rw (s.text, no_sign D (cond (eqb d.count 0) [] (46 ∷ E)) w.digits w.some)
     (read-parts (text_of p.whole d) D E w.digits (text-digits d.count d.number) t.0 t.1 w.some m
-    ∙ ap Number (ap₂ (λ (a k : ℕ). round binary64 false a (10 ^ k)) v (digits-length 10 d.count d.number) ∙ s.reads))
+    ∙ ap Ok (ap₂ (λ (a k : ℕ). round binary64 false a (10 ^ k)) v (digits-length 10 d.count d.number) ∙ s.reads))
 
 -- what is put for a float is read as the same float
 pub round_trip : (x : Float) → fits binary64 x ≡ true → in_decimal_range x ≡ true → length (digits_in (number_text x)) ≤ 15
-    → decimal_of (number_text x) ≡ Number x
+    → decimal_of (number_text x) ≡ Ok x
 round_trip x f i l =
     let bits = to_bits binary64 x in
     let b = whole_below (bits / 2 ^ 52) (bits % 2 ^ 52) (range-fields x i).1 (mod-lt bits (lit< tt)) in

@@ -1,6 +1,6 @@
 // The scale, from the first three plain words in decimal.
 use crate::Command;
-use decimal::Decimal;
+use decimal::DecimalFault;
 use motion_floats::Scale;
 use tool_io::words;
 use tool_io::words::Word;
@@ -17,9 +17,9 @@ pub fn none() -> Scale {
 // A text that is no number is not a number to the library too, which refuses it in its turn; none of one that is too long.
 fn number_of(text: &[u8]) -> Option<f64> {
     match decimal::number_of(text) {
-        Decimal::Number(value) => Some(value),
-        Decimal::NotNumber => Some(0.0 / 0.0),
-        Decimal::TooLong => None,
+        Ok(value) => Some(value),
+        Err(DecimalFault::NotNumber) => Some(0.0 / 0.0),
+        Err(DecimalFault::TooLong) => None,
     }
 }
 
@@ -46,7 +46,7 @@ fn is_number(rt: &HostRuntime) -> bool {
     if is_less(got) {
         return true;
     }
-    !matches!(decimal::number_of(&text[..n]), Decimal::NotNumber)
+    !matches!(decimal::number_of(&text[..n]), Err(DecimalFault::NotNumber))
 }
 
 // Whether a command that no input is named for has its whole scale.
