@@ -59,10 +59,7 @@ fn compare_plates(first: Head, second: Head, a: &[u8], b: &[u8]) -> Comparison
     if kind.byte() != other.byte() {
         return Comparison::OtherKind;
     }
-    if first.width != second.width {
-        return Comparison::OtherSize;
-    }
-    if first.height != second.height {
+    if first.width != second.width || first.height != second.height {
         return Comparison::OtherSize;
     }
     compare_maps(first, a, b)
@@ -73,15 +70,9 @@ fn compare_second(first: &[u8], second: &[u8], a: &[u8], b: &mut [u8]) -> Compar
     requires { Holds first.now a.now }
     ensures { SecondCompared first.now second.now b.old b.new result }
 {
-    let verdict = jobs::draw(second, b);
-    match verdict {
+    match jobs::draw(second, b) {
         Err(r) => Comparison::SecondRefused(r),
-        Ok(()) => compare_plates(
-            reading::head_in(first),
-            reading::head_in(second),
-            a,
-            b,
-        ),
+        Ok(()) => compare_plates(reading::head_in(first), reading::head_in(second), a, b),
     }
 }
 
@@ -89,8 +80,7 @@ fn compare_second(first: &[u8], second: &[u8], a: &[u8], b: &mut [u8]) -> Compar
 pub fn compare(first: &[u8], second: &[u8], a: &mut [u8], b: &mut [u8]) -> Comparison
     ensures { CompareCall first.now second.now a.old a.new b.old b.new result }
 {
-    let verdict = jobs::draw(first, a);
-    match verdict {
+    match jobs::draw(first, a) {
         Err(r) => Comparison::FirstRefused(r),
         Ok(()) => compare_second(first, second, a, b),
     }

@@ -169,8 +169,5 @@ pub fn volume(relief: &[u8], width: u16, height: u16) -> Result<u32, Refusal>
     ensures { result ≡ volume_of relief.now width height }
 {
     refusal::check_sides(width, height, false, relief.len())?;
-    Ok(depth_sum(
-        relief,
-        (height as usize) * (width as usize),
-    ))
+    Ok(depth_sum(relief, (height as usize) * (width as usize)))
 }

@@ -65,7 +65,13 @@ pub fn list(
 }
 
 // The canonical form of a file: drawn into c, then listed. The file's refusals, then 4 and 5.
-pub fn tidy(file: &[u8], out: &mut [u8], a: &mut [u8], b: &mut [u8], c: &mut [u8]) -> Result<Extent, Refusal>
+pub fn tidy(
+    file: &[u8],
+    out: &mut [u8],
+    a: &mut [u8],
+    b: &mut [u8],
+    c: &mut [u8],
+) -> Result<Extent, Refusal>
     ensures { TidyCall file.now out.old out.new a.old a.new b.old
         b.new c.old c.new result }
 {

@@ -176,7 +176,9 @@ fn answer(
     let outcome = tool_answers::outcome_of(command, scale, request.kind, input, out, a, b, c);
     match outcome {
         Ok(Output::Done(n)) => deliver(rt, fd, about, request, number, input, out, n),
-        Ok(Output::Listed(extent)) => deliver_list(rt, fd, about, request, number, input, out, extent),
+        Ok(Output::Listed(extent)) => deliver_list(
+            rt, fd, about, request, number, input, out, extent,
+        ),
         Err(Fault::Refused(refusal)) => refusals::say_refusal(from, command, scale, input, refusal),
         Err(Fault::Faulty(fault)) => refusals::say_fault(from, fault),
     }

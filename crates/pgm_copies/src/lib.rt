@@ -72,7 +72,12 @@ fn append_header(page: &mut [u8], at: usize, width: u16, height: u16) -> usize
 }
 
 // Depths as a picture's file, at the start of a buffer. Where there are too few or the buffer is too short, it stays as it was.
-pub fn put_picture(width: u16, height: u16, depths: &[u8], out: &mut [u8]) -> Result<usize, CopyFault>
+pub fn put_picture(
+    width: u16,
+    height: u16,
+    depths: &[u8],
+    out: &mut [u8],
+) -> Result<usize, CopyFault>
     ensures { Copies (file_answer width height depths.now out.old)
         (file_written width height depths.now out.old) out.new result }
 {

@@ -7,7 +7,6 @@ ghost use Rattle.scan.specs.Scan.{byte_in, depths};
 use listing::Extent;
 use refusal::Refusal;
 
-
 // The list of a scan's relief, as a file. Refusals 1, 2, 4 and 5.
 pub fn list_scan(scan: &[u8], out: &mut [u8], a: &mut [u8], b: &mut [u8]) -> Result<Extent, Refusal>
     ensures { ListCall (depths scan.now) (byte_in scan.now 0) (byte_in scan.now 1)

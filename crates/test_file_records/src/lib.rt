@@ -7,7 +7,9 @@ use listing::Extent;
 use reading::Job;
 use refusal::{Refusal, Verdict};
 use scan::byte_in;
-use test_io::{STDIN_FILENO, both, is_kept, part, print_next, print_refusal, print_rest, print_text, word};
+use test_io::{
+    STDIN_FILENO, both, is_kept, part, print_next, print_refusal, print_rest, print_text, word,
+};
 use test_records::{CELLS_ROOM, FILE_ROOM, between, cells_room, file_room, size_of};
 
 // The fixed bytes of a record.
@@ -151,7 +153,14 @@ fn print_work(a: &[u8], b: &[u8], c: &[u8], from: usize) {
 }
 
 // An answer of listing or tidying, its file, and the buffers' other bytes; gives the file's length, 0 if there is none.
-fn print_list(answer: Result<Extent, Refusal>, cells: usize, out: &[u8], a: &[u8], b: &[u8], c: &[u8]) -> usize {
+fn print_list(
+    answer: Result<Extent, Refusal>,
+    cells: usize,
+    out: &[u8],
+    a: &[u8],
+    b: &[u8],
+    c: &[u8],
+) -> usize {
     match answer {
         Ok(extent) => {
             test_io::print_listed(extent.bytes, extent.plunges, extent.erosions);

@@ -153,9 +153,7 @@ fn second_half(port: Port) -> u32 {
 fn verdict_number(verdict: Verdict) -> u32 {
     match verdict {
         Ok(()) => 0,
-        Err(refusal) => {
-            two_words((refusal.place % 65536) as u16, refusal.number as u16)
-        }
+        Err(refusal) => { two_words((refusal.place % 65536) as u16, refusal.number as u16) }
     }
 }
 
@@ -170,22 +168,15 @@ fn with_answer(sum: u32, answer: PortAnswer) -> u32 {
 }
 
 fn is_same(a: Port, b: Port) -> bool {
-    if first_half(a) == first_half(b) {
-        second_half(a) == second_half(b)
-    } else {
-        false
-    }
+    a.bytes == b.bytes
 }
 
 fn is_accepted(verdict: Verdict) -> bool {
-    match verdict {
-        Ok(()) => true,
-        Err(_) => false,
-    }
+    verdict.is_ok()
 }
 
 fn one_more(n: u32) -> u32 {
-    std::num::wrapping_add_u32(n, 1)
+    n.wrapping_add(1)
 }
 
 // ---- printing
@@ -348,7 +339,7 @@ fn no_answers() -> Tally {
 // Indices one after the other, each at every status with every value.
 fn run_writes(port: Port, first: u64, count: u32) {
     for i in 0..count {
-        let index = std::num::wrapping_add_u64(first, i as u64);
+        let index = first.wrapping_add(i as u64);
         print_text(b"byte");
         print_next(index);
         print_text(b"\n");
@@ -363,7 +354,7 @@ fn run_events(port: Port, first: u64, count: u32) {
     print_next(first);
     print_text(b"\n");
     for i in 0..count {
-        let number = low_half(std::num::wrapping_add_u64(first, i as u64));
+        let number = low_half(first.wrapping_add(i as u64));
         tally = event_statuses(tally, port, number);
     }
     print_tally(tally);

@@ -13,7 +13,9 @@ use geometry::{Head, Kind};
 fn cross_min(win: [[u8; 3]; 3]) -> u8
     ensures { result ≡ cross_of min win }
 {
-    win[0][1].min(win[2][1]).min(win[1][0].min(win[1][2]).min(win[1][1]))
+    win[0][1]
+        .min(win[2][1])
+        .min(win[1][0].min(win[1][2]).min(win[1][1]))
 }
 
 // The lowest of the four corners.
@@ -27,7 +29,9 @@ fn corners_min(win: [[u8; 3]; 3]) -> u8
 fn cross_max(win: [[u8; 3]; 3]) -> u8
     ensures { result ≡ cross_of max win }
 {
-    win[0][1].max(win[2][1]).max(win[1][0].max(win[1][2]).max(win[1][1]))
+    win[0][1]
+        .max(win[2][1])
+        .max(win[1][0].max(win[1][2]).max(win[1][1]))
 }
 
 // The highest of the four corners.

@@ -10,7 +10,7 @@ compare_second-requires c =
     let given = c.args in
     let f = given.first.now in
     let g = given.second.now in
-    let draw = c.draw-verdict in
+    let draw = c.draw in
     let d =
     subst (λ (v : Verdict). Drawn f given.a.now draw.new.out v) c.in-Ok.is
     draw.ensures in

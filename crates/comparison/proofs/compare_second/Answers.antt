@@ -19,7 +19,7 @@ head_in-requires-in-Ok c =
     let given = c.args in
     let f = given.first.now in
     let g = given.second.now in
-    let draw = c.draw-verdict in
+    let draw = c.draw in
     let d =
     subst (λ (v : Verdict). Drawn g given.b.now draw.new.out v) c.in-Ok.is
     draw.ensures in
@@ -30,7 +30,7 @@ compare_plates-requires c =
     let given = c.args in
     let f = given.first.now in
     let g = given.second.now in
-    let draw = c.draw-verdict in
+    let draw = c.draw in
     let d =
     subst (λ (v : Verdict). Drawn g given.b.now draw.new.out v) c.in-Ok.is
     draw.ensures in
@@ -47,7 +47,7 @@ returns-in-Ok c =
     let given = c.args in
     let f = given.first.now in
     let g = given.second.now in
-    let draw = c.draw-verdict in
+    let draw = c.draw in
     let d =
     subst (λ (v : Verdict). Drawn g given.b.now draw.new.out v) c.in-Ok.is
     draw.ensures in
