@@ -57,17 +57,3 @@ path-ends name h =
     ap (λ (j : ℕ). get_or (path_of name) j 1) (sym e)
     ∙ get_or-append-add name (zeros (path_room - n)) (4095 - n) 1
     ∙ get_or-replicate (path_room - n) (4095 - n) 0 1 (omega (arith, h))
-
--- ---- what a call may say of a name that is a path
-
-pub passed : (name : List ℕ) (r : Bool) → r ≡ is_path name → not r ≡ false → is_path name ≡ true
-passed name r e n = sym e ∙ not-false r n
-
-pub no_other : (name : List ℕ) → is_path name ≡ true → is_path name ≡ false → ⊥
-no_other name t f = let z : ◌≡◌ {A = ℕ} 0 1 = cc in omega arith
-
-pub is_found : (name : List ℕ) (m o g : ℕ) → is_path name ≡ true → IsStatus name (record { found = true; mode = m; owner = o; group = g })
-is_found name m o g t = (
-  (λ f. absurd (no_other name t f)),
-  (λ (f : ◌≡◌ {A = Bool} true false). let z : ◌≡◌ {A = ℕ} 0 1 = cc in absurd (omega arith)),
-)

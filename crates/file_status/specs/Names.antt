@@ -1,5 +1,5 @@
 -- To be believed: which names C can be handed, the array that it is handed for one, and what an answer says of any other name.
-use Rattle.std.specs.Prelude.{◌≡◌, Bool, true, false, cond, List, [], ◌∷◌, ◌++◌, ℕ, ◌-◌, eqb, ltb, length, replicate}
+use Rattle.std.specs.Prelude.{◌≡◌, Bool, true, false, cond, List, [], ◌∷◌, ◌++◌, ℕ, ◌-◌, eqb, ltb, length, replicate, Option, None}
 use Rattle.file_status.specs.declared.FileStatus.{FileStatus}
 
 -- libc's PATH_MAX: the bytes of a path, with the 0 that ends it
@@ -18,9 +18,6 @@ is_path name = cond (ltb (length name) path_room) (no_zero name) false
 abbrev pub path_of : List ℕ → List ℕ
 path_of name = name ++ replicate (path_room - length name) 0
 
-abbrev pub missing : FileStatus
-missing = record { found = false; mode = 0; owner = 0; group = 0 }
-
--- a name that is no path is not found; and of what is not found nothing is said
-abbrev pub IsStatus : List ℕ → FileStatus → Type 0
-IsStatus name r = (is_path name ≡ false → r.found ≡ false) × (r.found ≡ false → r ≡ missing)
+-- a name that is no path is not found; of what is not found nothing is said
+abbrev pub IsStatus : List ℕ → Option FileStatus → Type 0
+IsStatus name r = is_path name ≡ false → r ≡ None

@@ -2,7 +2,7 @@
 // written. No contract can say what the system answers: test_file_status shows it at work. Which names are handed over is proved.
 #![tactic(auto)]
 
-ghost use Rattle.std.specs.Prelude.{◌≡◌, ◌≤◌, true, false, IfOk};
+ghost use Rattle.std.specs.Prelude.{◌≡◌, ◌≤◌, true, false};
 ghost use Rattle.io.specs.Counts.{IsPrefixLen};
 ghost use Rattle.file_status.specs.Names.{is_path, IsStatus};
 
@@ -29,23 +29,13 @@ pub const PIPE: u32 = 0o010000;
 // C's EILSEQ: a name that is no UTF-8, which is how std takes names.
 const NO_TEXT: i32 = 84;
 
-// What the system says of a name: whether there is a file, its kind and permissions (C's st_mode; `mode & KIND` is the kind), its
-// owner and its group.
+// What the system says of a file: its kind and permissions (C's st_mode; `mode & KIND` is the kind), its owner and its group.
 #[derive(Clone, Copy)]
 pub struct FileStatus {
-    pub found: bool,
     pub mode: u32,
     pub owner: u32,
     pub group: u32,
 }
-
-// What is said of a name that is not found.
-pub const MISSING: FileStatus = FileStatus {
-    found: false,
-    mode: 0,
-    owner: 0,
-    group: 0,
-};
 
 // A name as std takes it: text. Of one that is none no file can be asked for.
 pub fn text_of(name: &[u8]) -> Result<&str, Error> {
@@ -53,12 +43,9 @@ pub fn text_of(name: &[u8]) -> Result<&str, Error> {
 }
 
 // What the system says of a name, links followed, or why it says nothing.
-pub fn find(rt: &HostRuntime, name: &[u8]) -> Result<FileStatus, Error>
-    ensures { IfOk result (λ status. status.found ≡ true) }
-{
+pub fn find(rt: &HostRuntime, name: &[u8]) -> Result<FileStatus, Error> {
     let seen = fs::metadata(rt, text_of(name)?)?;
     Ok(FileStatus {
-        found: true,
         mode: seen.mode(),
         owner: seen.uid(),
         group: seen.gid(),
@@ -66,13 +53,13 @@ pub fn find(rt: &HostRuntime, name: &[u8]) -> Result<FileStatus, Error>
 }
 
 // The same, where it does not matter why a file is not found. A name that is no path is not found either.
-pub fn status_of(rt: &HostRuntime, name: &[u8]) -> FileStatus
+pub fn status_of(rt: &HostRuntime, name: &[u8]) -> Option<FileStatus>
     ensures { IsStatus name.now result }
 {
     if !is_path(name) {
-        return MISSING;
+        return None;
     }
-    find(rt, name).unwrap_or(MISSING)
+    find(rt, name).ok()
 }
 
 // ---- links
@@ -118,10 +105,10 @@ pub fn is_link(rt: &HostRuntime, name: &[u8]) -> bool {
 // ---- writing
 
 // How a file is opened to see whether it may be written. A pipe that is opened for both does not wait for a reader.
-fn open_for_writing(rt: &HostRuntime, text: &str, kind: u32) -> Result<File, Error> {
+fn open_for_writing(rt: &HostRuntime, text: &str, is_pipe: bool) -> Result<File, Error> {
     let mut options = OpenOptions::new();
     options.write(true);
-    options.read(kind == PIPE);
+    options.read(is_pipe);
     options.open(rt, text)
 }
 
@@ -129,8 +116,8 @@ fn open_for_writing(rt: &HostRuntime, text: &str, kind: u32) -> Result<File, Err
 // be written, but its file may be replaced.
 pub fn try_writing(rt: &HostRuntime, name: &[u8]) -> Result<(), Error> {
     let text = text_of(name)?;
-    let status = status_of(rt, name);
-    match open_for_writing(rt, text, status.mode & KIND) {
+    let is_pipe = status_of(rt, name).is_some_and(|status| status.mode & KIND == PIPE);
+    match open_for_writing(rt, text, is_pipe) {
         Ok(_) => Ok(()),
         Err(error) => match error.kind() {
             ErrorKind::ExecutableFileBusy => Ok(()),

@@ -50,21 +50,21 @@ fn print_bytes(fd: i32, out: &[u8], n: usize) -> bool {
 }
 
 // The input's name, before what is told of it.
-fn print_heading(rt: &HostRuntime, fd: i32, number: usize, after: &[u8]) -> bool {
+fn print_heading(rt: &HostRuntime, fd: i32, word: Option<usize>, after: &[u8]) -> bool {
     let mut page = io::large_buffer();
-    let n = tool_io::names::heading(rt, &mut page, number, after);
+    let n = tool_io::names::heading(rt, &mut page, word, after);
     io::write_all(fd, &page[..n])
 }
 
-fn print_headed(rt: &HostRuntime, fd: i32, request: Request, number: usize) -> bool {
+fn print_headed(rt: &HostRuntime, fd: i32, request: Request, word: Option<usize>) -> bool {
     if !request.headed {
         return true;
     }
     let command = request.command;
     match command {
-        Command::Check => print_heading(rt, fd, number, b": "),
-        Command::Show => print_heading(rt, fd, number, b":\n"),
-        Command::Info => print_heading(rt, fd, number, b":\n"),
+        Command::Check => print_heading(rt, fd, word, b": "),
+        Command::Show => print_heading(rt, fd, word, b":\n"),
+        Command::Info => print_heading(rt, fd, word, b":\n"),
         Command::Motions => true,
         Command::Table => true,
         Command::List => true,
@@ -107,14 +107,14 @@ fn deliver(
     fd: i32,
     about: &[u8],
     request: Request,
-    number: usize,
+    word: Option<usize>,
     input: &[u8],
     out: &[u8],
     n: usize,
 ) -> u32
     ensures { result ≤ 2 }
 {
-    if !print_headed(rt, fd, request, number) {
+    if !print_headed(rt, fd, request, word) {
         tool_io::messages::fail_last(rt, about);
         return 2;
     }
@@ -141,14 +141,14 @@ fn deliver_list(
     fd: i32,
     about: &[u8],
     request: Request,
-    number: usize,
+    word: Option<usize>,
     input: &[u8],
     out: &[u8],
     extent: Extent,
 ) -> u32
     ensures { result ≤ 2 }
 {
-    let status = deliver(rt, fd, about, request, number, input, out, extent.bytes);
+    let status = deliver(rt, fd, about, request, word, input, out, extent.bytes);
     if status == 0 {
         say_rungs(request, extent);
     }
@@ -161,7 +161,7 @@ fn answer(
     fd: i32,
     about: &[u8],
     request: Request,
-    number: usize,
+    word: Option<usize>,
     from: &[u8],
     input: &[u8],
     out: &mut [u8],
@@ -175,9 +175,9 @@ fn answer(
     let scale = request.scale;
     let outcome = tool_answers::outcome_of(command, scale, request.kind, input, out, a, b, c);
     match outcome {
-        Ok(Output::Done(n)) => deliver(rt, fd, about, request, number, input, out, n),
+        Ok(Output::Done(n)) => deliver(rt, fd, about, request, word, input, out, n),
         Ok(Output::Listed(extent)) => deliver_list(
-            rt, fd, about, request, number, input, out, extent,
+            rt, fd, about, request, word, input, out, extent,
         ),
         Err(Fault::Refused(refusal)) => refusals::say_refusal(from, command, scale, input, refusal),
         Err(Fault::Faulty(fault)) => refusals::say_fault(from, fault),
@@ -190,7 +190,7 @@ fn answer_input(
     fd: i32,
     about: &[u8],
     request: Request,
-    number: usize,
+    word: Option<usize>,
     input: &mut [u8],
     out: &mut [u8],
     a: &mut [u8],
@@ -200,18 +200,16 @@ fn answer_input(
     ensures { result ≤ 2 }
 {
     let mut from = io::large_buffer();
-    let n = tool_io::names::label(rt, &mut from, number, b"standard input");
-    let got = tool_io::input::read_input(rt, number, &from[..n], input);
-    if !got.whole {
+    let n = tool_io::names::label(rt, &mut from, word, b"standard input");
+    let Some(bytes) = tool_io::input::read_input(rt, word, &from[..n], input) else {
         return 2;
-    }
-    let bytes = got.bytes;
+    };
     answer(
         rt,
         fd,
         about,
         request,
-        number,
+        word,
         &from[..n],
         &input[..bytes],
         out,
@@ -241,11 +239,11 @@ fn answer_all(
     let first = tool_words::plain_word(rt, request.first);
     let mut status = answer_input(rt, fd, about, request, first, input, out, a, b, c);
     for which in request.first..count {
-        let number = tool_words::plain_word(rt, which + 1);
-        if number == 0 {
+        let word = tool_words::plain_word(rt, which + 1);
+        if word.is_none() {
             return status;
         }
-        let next = answer_input(rt, fd, about, request, number, input, out, a, b, c);
+        let next = answer_input(rt, fd, about, request, word, input, out, a, b, c);
         status = worse(status, next);
     }
     status
@@ -328,14 +326,12 @@ fn compare_second(
 ) -> u32
     ensures { result ≤ 2 }
 {
-    let number = tool_words::plain_word(rt, 1);
+    let word = tool_words::plain_word(rt, 1);
     let mut other = io::large_buffer();
-    let n = tool_io::names::label(rt, &mut other, number, b"standard input");
-    let got = tool_io::input::read_input(rt, number, &other[..n], out);
-    if !got.whole {
+    let n = tool_io::names::label(rt, &mut other, word, b"standard input");
+    let Some(bytes) = tool_io::input::read_input(rt, word, &other[..n], out) else {
         return 2;
-    }
-    let bytes = got.bytes;
+    };
     compare_files(rt, fd, about, first, &out[..bytes], one, &other[..n], a, b)
 }
 
@@ -351,14 +347,12 @@ fn compare_inputs(
 ) -> u32
     ensures { result ≤ 2 }
 {
-    let number = tool_words::plain_word(rt, 0);
+    let word = tool_words::plain_word(rt, 0);
     let mut one = io::large_buffer();
-    let n = tool_io::names::label(rt, &mut one, number, b"standard input");
-    let got = tool_io::input::read_input(rt, number, &one[..n], input);
-    if !got.whole {
+    let n = tool_io::names::label(rt, &mut one, word, b"standard input");
+    let Some(bytes) = tool_io::input::read_input(rt, word, &one[..n], input) else {
         return 2;
-    }
-    let bytes = got.bytes;
+    };
     compare_second(rt, fd, about, &input[..bytes], &one[..n], out, a, b)
 }
 
@@ -401,7 +395,7 @@ fn kept_by(command: Command, status: u32) -> u32
 // Opens the output that a word names, answers, and ends the output.
 fn run_to(
     rt: &HostRuntime,
-    number: usize,
+    word: Option<usize>,
     request: Request,
     input: &mut [u8],
     out: &mut [u8],
@@ -412,10 +406,10 @@ fn run_to(
     ensures { result ≤ 2 }
 {
     let mut about = io::large_buffer();
-    let l = tool_io::names::label(rt, &mut about, number, b"standard output");
+    let l = tool_io::names::label(rt, &mut about, word, b"standard output");
     let mut name = io::buffer();
     let mut part = io::buffer();
-    let opened = tool_io::output::open(rt, number, &mut name, &mut part, &about[..l]);
+    let opened = tool_io::output::open(rt, word, &mut name, &mut part, &about[..l]);
     if opened.fd < 0 {
         return 2;
     }
@@ -455,23 +449,21 @@ fn run(
     let Some(scale) = tool_words::scales::scale_of(rt, command) else {
         return 2;
     };
-    let kind = tool_words::given_kind(rt, options);
-    if kind == 0 {
+    let Some(kind) = tool_words::given_kind(rt, options) else {
         return help::usage();
-    }
-    let loaded = tables::given_table(rt, options.table, input);
-    if loaded.status != 0 {
-        return loaded.status;
-    }
-    let table = loaded.table;
+    };
+    let table = match tables::given_table(rt, options.table, input) {
+        Ok(table) => table,
+        Err(status) => return status,
+    };
     let first = tool_words::first_input(command);
-    let headed = tool_words::plain_word(rt, 1) != 0;
+    let headed = tool_words::plain_word(rt, 1).is_some();
     let request = Request {
         command,
         scale,
         table,
         kind,
-        rungs: options.rungs != 0,
+        rungs: options.rungs.is_some(),
         first,
         headed,
     };

@@ -28,11 +28,9 @@ fn say_kind(mode: u32) {
 fn show_kind(rt: &HostRuntime, label: &[u8], name: &[u8]) {
     say(label);
     say(b": ");
-    let status = status_of(rt, name);
-    if status.found {
-        say_kind(status.mode);
-    } else {
-        say(b"none");
+    match status_of(rt, name) {
+        Some(status) => say_kind(status.mode),
+        None => say(b"none"),
     }
     say(b"\n");
 }

@@ -1,21 +1,14 @@
 // An input, read whole: the file that a word names, or standard input.
+ghost use Rattle.std.specs.Prelude.{IfSome};
 ghost use Rattle.io.specs.Counts.{IsPrefixLen};
 
 use crate::words;
-use crate::words::Word;
 use std::fs::File;
 use std::io::{Error, Read};
 use std::os::fd::AsRawFd;
 
 // Standard input.
 const STDIN: i32 = 0;
-
-// How many bytes were read, and whether that is all of the input. If it is not, the reason was said.
-#[derive(Clone, Copy)]
-pub struct Input {
-    pub bytes: usize,
-    pub whole: bool,
-}
 
 // Whether an input ends where its bytes were read: one byte more is asked for. If it does not, or cannot be read, that is said.
 fn ends<T: Read>(rt: &HostRuntime, source: &mut T, about: &[u8], most: usize) -> bool {
@@ -35,61 +28,59 @@ fn ends<T: Read>(rt: &HostRuntime, source: &mut T, about: &[u8], most: usize) ->
     }
 }
 
-// Reads to the end of an input, whose descriptor is fd; an input that does not end within the buffer is refused in words.
+// Reads to the end of an input, whose descriptor is fd, and gives how many bytes it has; of an input that does not end within the
+// buffer the reason is said, and none is given.
 fn read_all<T: Read>(
     rt: &HostRuntime,
     source: &mut T,
     fd: i32,
     about: &[u8],
     buf: &mut [u8],
-) -> Input
-    ensures { IsPrefixLen result.bytes buf.new }
+) -> Option<usize>
+    ensures { IfSome result (λ n. IsPrefixLen n buf.new) }
 {
     let bytes = io::read_full(fd, buf);
-    let whole = ends(rt, source, about, buf.len());
-    Input { bytes, whole }
+    if ends(rt, source, about, buf.len()) {
+        Some(bytes)
+    } else {
+        None
+    }
 }
 
 // The file of a word, open for reading.
-fn open(rt: &HostRuntime, word: Word, name: &[u8]) -> Result<File, Error> {
-    match words::whole(word) {
-        Ok(()) => {}
-        Err(error) => return Err(error),
-    }
-    match file_status::text_of(name) {
-        Ok(text) => File::open(rt, text),
-        Err(error) => Err(error),
-    }
+fn open(rt: &HostRuntime, number: usize) -> Result<File, Error> {
+    let mut name = io::buffer();
+    let n = words::fetch(rt, number, &mut name).map_err(words::error_of)?;
+    File::open(rt, file_status::text_of(&name[..n])?)
 }
 
 // The file that a word names.
-fn read_named(rt: &HostRuntime, number: usize, about: &[u8], buf: &mut [u8]) -> Input
-    ensures { IsPrefixLen result.bytes buf.new }
+fn read_named(rt: &HostRuntime, number: usize, about: &[u8], buf: &mut [u8]) -> Option<usize>
+    ensures { IfSome result (λ n. IsPrefixLen n buf.new) }
 {
-    let mut name = io::buffer();
-    let word = words::fetch(rt, number, &mut name);
-    let n = word.length;
-    match open(rt, word, &name[..n]) {
-        Ok(file) => {
-            let mut file = file;
+    match open(rt, number) {
+        Ok(mut file) => {
             let fd = file.as_raw_fd();
             read_all(rt, &mut file, fd, about, buf)
         }
         Err(error) => {
             crate::messages::fail(rt, about, &error);
-            Input {
-                bytes: 0,
-                whole: false,
-            }
+            None
         }
     }
 }
 
-// The file that a word names, or standard input where there is no such word or it is "-".
-pub fn read_input(rt: &HostRuntime, number: usize, about: &[u8], buf: &mut [u8]) -> Input
-    ensures { IsPrefixLen result.bytes buf.new }
+// The file that a word names, or standard input where there is no such word or it is "-": how many bytes it has, all of which were
+// read. Where there is none, the reason was said.
+pub fn read_input(
+    rt: &HostRuntime,
+    word: Option<usize>,
+    about: &[u8],
+    buf: &mut [u8],
+) -> Option<usize>
+    ensures { IfSome result (λ n. IsPrefixLen n buf.new) }
 {
-    if crate::names::is_name(rt, number) {
+    if let Some(number) = crate::names::named(rt, word) {
         return read_named(rt, number, about, buf);
     }
     let mut source = rt.stdin();

@@ -3,16 +3,19 @@ ghost use Rattle.std.specs.Prelude.{◌≤◌, ◌<◌, length};
 ghost use Rattle.io.specs.Counts.{IsPrefixLen};
 
 use crate::words::fetch;
+use std::env::FillError;
 use std::random::RandomSource;
 
-// Whether the word with this number is there and is not "-", which stands for standard input or output.
-pub fn is_name(rt: &HostRuntime, number: usize) -> bool {
-    if number == 0 {
-        return false;
-    }
+// The number of a word that is there and is not "-", which stands for standard input or output.
+pub fn named(rt: &HostRuntime, word: Option<usize>) -> Option<usize> {
+    let number = word?;
     let mut text = [0u8; 2];
-    let n = fetch(rt, number, &mut text).length;
-    !check::same(&text[..n], b"-")
+    let n = fetch(rt, number, &mut text).unwrap_or(0);
+    if check::same(&text[..n], b"-") {
+        None
+    } else {
+        Some(number)
+    }
 }
 
 // A name as it is shown; of one that is too long for the system the beginning.
@@ -21,38 +24,37 @@ fn append_shown(rt: &HostRuntime, page: &mut [u8], at: usize, number: usize) -> 
     ensures { IsPrefixLen result page.new }
 {
     let mut name = io::buffer();
-    let got = fetch(rt, number, &mut name);
-    let n = got.length;
-    if got.cut {
-        let mut begin = [0u8; 64];
-        fetch(rt, number, &mut begin);
-        let begun = phrases::append_name(page, at, &begin);
-        return phrases::append(page, begun, b"...");
+    match fetch(rt, number, &mut name) {
+        Ok(n) => phrases::append_name(page, at, &name[..n]),
+        Err(FillError::NotPresent) => at,
+        Err(FillError::TooLong) => {
+            let mut begin = [0u8; 64];
+            let _ = fetch(rt, number, &mut begin);
+            let begun = phrases::append_name(page, at, &begin);
+            phrases::append(page, begun, b"...")
+        }
     }
-    phrases::append_name(page, at, &name[..n])
 }
 
 // A file's name and what follows it, before what is told of that file; gives its length.
-pub fn heading(rt: &HostRuntime, page: &mut [u8], number: usize, after: &[u8]) -> usize
+pub fn heading(rt: &HostRuntime, page: &mut [u8], word: Option<usize>, after: &[u8]) -> usize
     ensures { IsPrefixLen result page.new }
 {
-    if is_name(rt, number) {
-        let named = append_shown(rt, page, 0, number);
-        return phrases::append(page, named, after);
-    }
-    let standard = phrases::append(page, 0, b"standard input");
-    phrases::append(page, standard, after)
+    let shown = match named(rt, word) {
+        Some(number) => append_shown(rt, page, 0, number),
+        None => phrases::append(page, 0, b"standard input"),
+    };
+    phrases::append(page, shown, after)
 }
 
 // What messages about a file begin with: the program, and the name, or `standard` where there is none. Gives its length.
-pub fn label(rt: &HostRuntime, page: &mut [u8], number: usize, standard: &[u8]) -> usize
+pub fn label(rt: &HostRuntime, page: &mut [u8], word: Option<usize>, standard: &[u8]) -> usize
     ensures { IsPrefixLen result page.new }
 {
     let at = phrases::append(page, 0, b"jobtool: ");
-    if is_name(rt, number) {
-        append_shown(rt, page, at, number)
-    } else {
-        phrases::append(page, at, standard)
+    match named(rt, word) {
+        Some(number) => append_shown(rt, page, at, number),
+        None => phrases::append(page, at, standard),
     }
 }
 

@@ -4,7 +4,6 @@ ghost use Rattle.io.specs.Counts.{IsPrefixLen};
 
 use crate::messages::fail;
 use crate::words;
-use crate::words::Word;
 use file_status::{FileStatus, text_of};
 use std::fs;
 use std::fs::{File, OpenOptions, Permissions};
@@ -37,14 +36,14 @@ pub struct Output {
     pub part: usize,
 }
 
-// Whether a file is there that is neither a regular one nor missing: it is written in place.
-fn is_special(status: FileStatus) -> bool {
-    status.found && status.mode & file_status::KIND != file_status::REGULAR
+// Whether a file is there that is no regular one: it is written in place.
+fn is_special(status: Option<FileStatus>) -> bool {
+    status.is_some_and(|seen| seen.mode & file_status::KIND != file_status::REGULAR)
 }
 
 // Whether a file may be replaced: it is missing, or a regular one that may be written. If not, the reason was said.
-fn is_replaceable(rt: &HostRuntime, name: &[u8], status: FileStatus, about: &[u8]) -> bool {
-    if status.found {
+fn is_replaceable(rt: &HostRuntime, name: &[u8], status: Option<FileStatus>, about: &[u8]) -> bool {
+    if status.is_some() {
         match file_status::try_writing(rt, name) {
             Ok(()) => return true,
             Err(error) => {
@@ -107,10 +106,10 @@ fn create_beside(rt: &HostRuntime, name: &[u8], part: &mut [u8]) -> Part
 }
 
 // A new file gets the permissions and, where the system allows it, the owner of the one that it replaces.
-fn take_after(file: &File, status: FileStatus) -> Result<(), Error> {
-    if !status.found {
+fn take_after(file: &File, before: Option<FileStatus>) -> Result<(), Error> {
+    let Some(status) = before else {
         return Ok(());
-    }
+    };
     let _ = fchown(file, Some(status.owner), Some(status.group));
     file.set_permissions(Permissions::from_mode(status.mode & 0o7777))
 }
@@ -217,7 +216,7 @@ fn open_in_place(rt: &HostRuntime, name: &[u8], about: &[u8]) -> Output
 fn open_beside(
     rt: &HostRuntime,
     name: &[u8],
-    before: FileStatus,
+    before: Option<FileStatus>,
     part: &mut [u8],
     about: &[u8],
 ) -> Output
@@ -243,7 +242,7 @@ fn open_beside(
 fn open_name(
     rt: &HostRuntime,
     name: &[u8],
-    before: FileStatus,
+    before: Option<FileStatus>,
     part: &mut [u8],
     about: &[u8],
 ) -> Output
@@ -260,12 +259,11 @@ fn open_name(
 }
 
 // What stands under a name, if anything, or why that cannot be seen.
-fn seen(rt: &HostRuntime, word: Word, name: &[u8]) -> Result<FileStatus, Error> {
-    words::whole(word)?;
+fn seen(rt: &HostRuntime, name: &[u8]) -> Result<Option<FileStatus>, Error> {
     match file_status::find(rt, name) {
-        Ok(status) => Ok(status),
+        Ok(status) => Ok(Some(status)),
         Err(error) => match error.kind() {
-            ErrorKind::NotFound => Ok(file_status::MISSING),
+            ErrorKind::NotFound => Ok(None),
             _ => Err(error),
         },
     }
@@ -276,7 +274,7 @@ fn open_regular(
     rt: &HostRuntime,
     name: &mut [u8],
     n: usize,
-    before: FileStatus,
+    before: Option<FileStatus>,
     part: &mut [u8],
     about: &[u8],
 ) -> Output
@@ -311,9 +309,14 @@ fn open_word(
 ) -> Output
     ensures { IsPrefixLen result.name name.new × IsPrefixLen result.part part.new }
 {
-    let word = words::fetch(rt, number, name);
-    let n = word.length;
-    match seen(rt, word, &name[..n]) {
+    let n = match words::fetch(rt, number, name) {
+        Ok(n) => n,
+        Err(fault) => {
+            fail(rt, about, &words::error_of(fault));
+            return none();
+        }
+    };
+    match seen(rt, &name[..n]) {
         Ok(before) => {
             if is_special(before) {
                 return open_in_place(rt, &name[..n], about);
@@ -330,14 +333,14 @@ fn open_word(
 // The output that a word names, or standard output where there is no such word or it is "-". `about` begins messages.
 pub fn open(
     rt: &HostRuntime,
-    number: usize,
+    word: Option<usize>,
     name: &mut [u8],
     part: &mut [u8],
     about: &[u8],
 ) -> Output
     ensures { IsPrefixLen result.name name.new × IsPrefixLen result.part part.new }
 {
-    if crate::names::is_name(rt, number) {
+    if let Some(number) = crate::names::named(rt, word) {
         return open_word(rt, number, name, part, about);
     }
     Output {

@@ -5,7 +5,9 @@ pub mod scales;
 
 ghost use Rattle.std.specs.Prelude.{◌≤◌, ◌<◌};
 
+use std::env::FillError;
 use std::io::IsTerminal;
+use tool_io::names::named;
 use tool_io::words;
 
 // What to do; its word is the first.
@@ -38,14 +40,14 @@ enum Word {
     Plain,
 }
 
-// The numbers of the words that name the output, the kind and the sink table and that ask for the rungs climbed, 0 where there is none; and
+// The numbers of the words that name the output, the kind and the sink table and that ask for the rungs climbed, if there are such words; and
 // whether an option is wrong.
 #[derive(Clone, Copy)]
 pub struct Options {
-    pub output: usize,
-    pub kind: usize,
-    pub rungs: usize,
-    pub table: usize,
+    pub output: Option<usize>,
+    pub kind: Option<usize>,
+    pub rungs: Option<usize>,
+    pub table: Option<usize>,
     pub wrong: bool,
 }
 
@@ -110,7 +112,7 @@ fn command_of(word: &[u8]) -> Command {
 
 pub fn given_command(rt: &HostRuntime) -> Command {
     let mut word = [0u8; 16];
-    let n = words::fetch(rt, 1, &mut word).length;
+    let n = words::fetch(rt, 1, &mut word).unwrap_or(0);
     command_of(&word[..n])
 }
 
@@ -164,12 +166,11 @@ fn word_of(text: &[u8]) -> Word {
 
 fn word_at(rt: &HostRuntime, number: usize) -> Word {
     let mut text = [0u8; 32];
-    let got = words::fetch(rt, number, &mut text);
-    let n = got.length;
-    if got.cut {
-        return long_word(&text);
+    match words::fetch(rt, number, &mut text) {
+        Ok(n) => word_of(&text[..n]),
+        Err(FillError::NotPresent) => word_of(b""),
+        Err(FillError::TooLong) => long_word(&text),
     }
-    word_of(&text[..n])
 }
 
 // A word that is longer than every option, by its beginning.
@@ -205,50 +206,52 @@ fn behind_value(number: usize, count: usize) -> usize
     number + 2
 }
 
-// The number of the value of the option with a number; 0 where it is missing.
-fn value_of(number: usize, count: usize) -> usize
+// The number of the value of the option with a number, if it is there.
+fn value_of(number: usize, count: usize) -> Option<usize>
     requires { number < count }
 {
-    if count - number < 2 { 0 } else { number + 1 }
+    if count - number < 2 {
+        None
+    } else {
+        Some(number + 1)
+    }
 }
 
 // A value that is missing, or an option that stands twice, is wrong.
-fn is_wrong(options: Options, before: usize, value: usize) -> bool {
-    value == 0 || before != 0 || options.wrong
+fn is_wrong(options: Options, before: Option<usize>, value: Option<usize>) -> bool {
+    value.is_none() || before.is_some() || options.wrong
 }
 
-fn with_output(options: Options, value: usize) -> Options {
-    let mut next = options;
-    next.output = value;
-    next.wrong = is_wrong(options, options.output, value);
-    next
+fn with_output(options: Options, output: Option<usize>) -> Options {
+    Options {
+        output,
+        wrong: is_wrong(options, options.output, output),
+        ..options
+    }
 }
 
-fn with_kind(options: Options, value: usize) -> Options {
-    let mut next = options;
-    next.kind = value;
-    next.wrong = is_wrong(options, options.kind, value);
-    next
+fn with_kind(options: Options, kind: Option<usize>) -> Options {
+    Options {
+        kind,
+        wrong: is_wrong(options, options.kind, kind),
+        ..options
+    }
 }
 
-fn with_table(options: Options, value: usize) -> Options {
-    let mut next = options;
-    next.table = value;
-    next.wrong = is_wrong(options, options.table, value);
-    next
+fn with_table(options: Options, table: Option<usize>) -> Options {
+    Options {
+        table,
+        wrong: is_wrong(options, options.table, table),
+        ..options
+    }
 }
 
-fn with_rungs(options: Options, number: usize) -> Options {
-    let mut next = options;
-    next.rungs = number;
-    next.wrong = is_wrong(options, options.rungs, number);
-    next
-}
-
-fn with_unknown(options: Options) -> Options {
-    let mut next = options;
-    next.wrong = true;
-    next
+fn with_rungs(options: Options, rungs: Option<usize>) -> Options {
+    Options {
+        rungs,
+        wrong: is_wrong(options, options.rungs, rungs),
+        ..options
+    }
 }
 
 fn with_word(options: Options, word: Word, number: usize, count: usize) -> Options
@@ -258,8 +261,11 @@ fn with_word(options: Options, word: Word, number: usize, count: usize) -> Optio
         Word::Output => with_output(options, value_of(number, count)),
         Word::Kind => with_kind(options, value_of(number, count)),
         Word::Table => with_table(options, value_of(number, count)),
-        Word::Rungs => with_rungs(options, number),
-        Word::Unknown => with_unknown(options),
+        Word::Rungs => with_rungs(options, Some(number)),
+        Word::Unknown => Options {
+            wrong: true,
+            ..options
+        },
         Word::Plain => options,
     }
 }
@@ -268,10 +274,10 @@ fn with_word(options: Options, word: Word, number: usize, count: usize) -> Optio
 pub fn given_options(rt: &HostRuntime) -> Options {
     let count = words::count(rt);
     let mut options = Options {
-        output: 0,
-        kind: 0,
-        rungs: 0,
-        table: 0,
+        output: None,
+        kind: None,
+        rungs: None,
+        table: None,
         wrong: false,
     };
     let mut i = 2;
@@ -289,8 +295,8 @@ fn is_plain(word: Word) -> bool {
     matches!(word, Word::Plain)
 }
 
-// The number of a plain word behind the command, the first being 0; 0 where there are not so many.
-pub fn plain_word(rt: &HostRuntime, which: usize) -> usize {
+// The number of a plain word behind the command, the first being 0, if there are so many.
+pub fn plain_word(rt: &HostRuntime, which: usize) -> Option<usize> {
     let count = words::count(rt);
     let mut left = which;
     let mut i = 2;
@@ -298,13 +304,13 @@ pub fn plain_word(rt: &HostRuntime, which: usize) -> usize {
         let word = word_at(rt, i);
         if is_plain(word) {
             if left == 0 {
-                return i;
+                return Some(i);
             }
             left -= 1;
         }
         i = next(word, i, count);
     }
-    0
+    None
 }
 
 // ---- what a command takes
@@ -324,25 +330,17 @@ pub fn first_input(command: Command) -> usize
 // Whether there are as many plain words as a command takes.
 fn fits_plain(rt: &HostRuntime, command: Command) -> bool {
     match command {
-        Command::Motions => if plain_word(rt, 2) == 0 {
-            false
-        } else {
-            plain_word(rt, 4) == 0
-        },
-        Command::Same => if plain_word(rt, 1) == 0 {
-            false
-        } else {
-            plain_word(rt, 2) == 0
-        },
+        Command::Motions => plain_word(rt, 2).is_some() && plain_word(rt, 4).is_none(),
+        Command::Same => plain_word(rt, 1).is_some() && plain_word(rt, 2).is_none(),
         Command::Check => true,
         Command::Show => true,
         Command::Info => true,
-        Command::List => plain_word(rt, 1) == 0,
-        Command::Draw => plain_word(rt, 1) == 0,
-        Command::Tidy => plain_word(rt, 1) == 0,
-        Command::Scan => plain_word(rt, 1) == 0,
-        Command::Picture => plain_word(rt, 1) == 0,
-        Command::Table => plain_word(rt, 1) == 0,
+        Command::List => plain_word(rt, 1).is_none(),
+        Command::Draw => plain_word(rt, 1).is_none(),
+        Command::Tidy => plain_word(rt, 1).is_none(),
+        Command::Scan => plain_word(rt, 1).is_none(),
+        Command::Picture => plain_word(rt, 1).is_none(),
+        Command::Table => plain_word(rt, 1).is_none(),
         Command::Help => true,
         Command::Version => true,
         Command::Unknown => true,
@@ -361,29 +359,23 @@ fn makes_list(command: Command) -> bool {
 
 // Whether a sink table stands where it means something, and is not read from where the job is.
 fn fits_table(rt: &HostRuntime, command: Command, options: Options) -> bool {
-    if options.table == 0 {
-        return true;
-    }
-    if !is_motions(command) {
-        return false;
-    }
-    if tool_io::names::is_name(rt, options.table) {
-        return true;
-    }
-    tool_io::names::is_name(rt, plain_word(rt, first_input(command)))
+    options.table.is_none()
+        || (is_motions(command)
+            && (named(rt, options.table).is_some()
+                || named(rt, plain_word(rt, first_input(command))).is_some()))
 }
 
 // Whether each option stands where it means something.
 fn fits_options(rt: &HostRuntime, command: Command, options: Options) -> bool {
     !options.wrong
-        && (options.kind == 0 || makes_scan(command))
-        && (options.rungs == 0 || makes_list(command))
+        && (options.kind.is_none() || makes_scan(command))
+        && (options.rungs.is_none() || makes_list(command))
         && fits_table(rt, command, options)
 }
 
 // Without a name the input is standard input, but nobody is kept waiting at a terminal.
 fn fits_input(rt: &HostRuntime, command: Command) -> bool {
-    if plain_word(rt, first_input(command)) != 0 {
+    if plain_word(rt, first_input(command)).is_some() {
         return true;
     }
     if rt.stdin().is_terminal() {
@@ -394,13 +386,7 @@ fn fits_input(rt: &HostRuntime, command: Command) -> bool {
 
 // Whether a command was given what it takes.
 pub fn fits(rt: &HostRuntime, command: Command, options: Options) -> bool {
-    if !fits_options(rt, command, options) {
-        return false;
-    }
-    if !fits_plain(rt, command) {
-        return false;
-    }
-    fits_input(rt, command)
+    fits_options(rt, command, options) && fits_plain(rt, command) && fits_input(rt, command)
 }
 
 pub fn is_same(command: Command) -> bool {
@@ -422,18 +408,16 @@ pub fn is_same(command: Command) -> bool {
     }
 }
 
-// The kind that is asked for: 4 or 8, 8 where nothing is said, 0 where it is another word.
-pub fn given_kind(rt: &HostRuntime, options: Options) -> u8 {
-    if options.kind == 0 {
-        return 8;
-    }
+// The kind that is asked for: 4 or 8, 8 where nothing is said; none where it is another word.
+pub fn given_kind(rt: &HostRuntime, options: Options) -> Option<u8> {
+    let Some(number) = options.kind else {
+        return Some(8);
+    };
     let mut word = [0u8; 2];
-    let n = words::fetch(rt, options.kind, &mut word).length;
-    if check::same(&word[..n], b"4") {
-        return 4;
+    let n = words::fetch(rt, number, &mut word).unwrap_or(0);
+    match &word[..n] {
+        [b'4'] => Some(4),
+        [b'8'] => Some(8),
+        _ => None,
     }
-    if check::same(&word[..n], b"8") {
-        return 8;
-    }
-    0
 }

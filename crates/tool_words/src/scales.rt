@@ -3,7 +3,6 @@ use crate::Command;
 use decimal::DecimalFault;
 use motion_floats::Scale;
 use tool_io::words;
-use tool_io::words::Word;
 
 // The scale of a command that needs none.
 pub fn none() -> Scale {
@@ -23,30 +22,22 @@ fn number_of(text: &[u8]) -> Option<f64> {
     }
 }
 
-// Whether a word is missing, or longer than its buffer.
-fn is_less(word: Word) -> bool {
-    word.cut || word.missing
-}
-
 fn given_number(rt: &HostRuntime, which: usize) -> Option<f64> {
     let mut text = io::buffer();
-    let got = words::fetch(rt, crate::plain_word(rt, which), &mut text);
-    let n = got.length;
-    if is_less(got) {
-        return None;
-    }
+    let n = words::fetch(rt, crate::plain_word(rt, which)?, &mut text).ok()?;
     number_of(&text[..n])
 }
 
 // Whether the last of a scale's three words is a number. If it is none, and no input is named, an offset was forgotten.
 fn is_number(rt: &HostRuntime) -> bool {
-    let mut text = io::buffer();
-    let got = words::fetch(rt, crate::plain_word(rt, 2), &mut text);
-    let n = got.length;
-    if is_less(got) {
+    let Some(number) = crate::plain_word(rt, 2) else {
         return true;
+    };
+    let mut text = io::buffer();
+    match words::fetch(rt, number, &mut text) {
+        Ok(n) => !matches!(decimal::number_of(&text[..n]), Err(DecimalFault::NotNumber)),
+        Err(_) => true,
     }
-    !matches!(decimal::number_of(&text[..n]), Err(DecimalFault::NotNumber))
 }
 
 // Whether a command that no input is named for has its whole scale.
