@@ -21,7 +21,7 @@ of_list (Ok e) = record { number = 0; place = 0; bytes = e.bytes; plunges = e.pl
 of_list (Err r) = record { number = r.number; place = r.place; bytes = 0; plunges = 0; rungs = 0 }
 
 -- the inner call's promise holds of an answer, and the struct says that answer
-abbrev pub ToldList : ((Result Extent Refusal) → Type 0) → HaruListAnswer → Type 0
+abbrev pub ToldList : (Result Extent Refusal → Type 0) → HaruListAnswer → Type 0
 ToldList P r = (v : Result Extent Refusal) × P v × (r ≡ of_list v)
 
 abbrev nothing : Float
