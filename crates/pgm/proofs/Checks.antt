@@ -157,14 +157,6 @@ module _ (f : List ℕ) (h : Header) where
       → r ≡ first_fault (picture_trials f h)
   all-checked a b r ea eb er = er ∙ ap₂ first_of ea eb ∙ sym (first-append (header_trials f h) (sample_trials f h))
 
-  pub answered : (r : Result ⊤ PictureFault) (p : Picture) (a : Result Picture PictureFault) → h ≡ header_in f → r ≡ first_fault (picture_trials f h) → p ≡ picture_of h → a ≡ answer_of r p
-      → a ≡ picture_answer f
-  answered r p a eh er ep ea =
-      ea ∙ ap₂ answer_of er ep ∙ ap (λ (k : Header). answer_of (first_fault (picture_trials f k)) (picture_of k)) eh
-
-  pub faulty : (r : Result ⊤ PictureFault) (x : PictureFault) → h ≡ header_in f → r ≡ first_fault (picture_trials f h) → r ≡ Err x → Err x ≡ picture_answer f
-  faulty r x eh er e = answered r (picture_of h) (Err x) eh er refl (sym (ap (λ (k : Result ⊤ PictureFault). answer_of k (picture_of h)) e))
-
 pub header_read : (f : List ℕ) (a b c : Number) → a ≡ number_after f 2 → b ≡ number_after f a.end → c ≡ number_after f b.end
     → record { width = a; height = b; maxval = c } ≡ header_in f
 header_read f a b c ea eb ec = rw (ec, eb, ea)
