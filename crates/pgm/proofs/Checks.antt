@@ -8,7 +8,7 @@ use native.Mathlib.Omega.{arith}
 use native.Mathlib.Nat.{mul-le-mul}
 use borrow.Author.Tests.{le-leb, leb-true, lt-ltb, le-ltb, ltb-false, ne_eqb, not-false}
 use lib.Dec.{eqb, ltb, leb}
-use lib.ListN.{length, get_or, take, drop, get_or-eq_default}
+use lib.ListN.{length, get_or, take, drop}
 use Rattle.pgm.specs.declared.Number.{Number}
 use Rattle.pgm.specs.declared.Header.{Header}
 use Rattle.pgm.specs.declared.Quantity.{Quantity}
@@ -18,7 +18,7 @@ use Rattle.pgm.specs.declared.Picture.{Picture}
 use Rattle.pgm.specs.declared.Quantity.TheVariants.{Width, Height, Maxval}
 use Rattle.refusal.specs.Refusals.{largest_side}
 use Rattle.pgm.specs.Pgm.{Trial, trial, is_white, number_after, header_in, picture_of, answer_of, picture_answer, opens, first_sample, area, count_within, first_fault, in_range, largest_sample, number_trials, numbers_trials, header_trials, raster_trials, sample_trials, picture_trials}
-use Rattle.pgm.specs.Steps.{first_of, Sized, Lies}
+use Rattle.pgm.specs.Steps.{first_of, Lies}
 
 -- two numbers of 32 bits have a product of 64
 pub product-fits : (a b : ℕ) → a < 4294967296 → b < 4294967296 → a * b < 18446744073709551616
@@ -120,11 +120,6 @@ passed-lies f h e =
       inside = omega (arith, here, room);
     }
 
-pub passed-sized : (f : List ℕ) (h : Header) → length f ≤ 18446744073709551615 → first_fault (picture_trials f h) ≡ Ok tt → Sized h
-passed-sized f h l e =
-    let p = passed-lies f h e in
-    record { width_small = p.width_small; height-small = p.height-small; end-small = omega (arith, p.inside, l) }
-
 answer-passed : (c : Result ⊤ PictureFault) (q p : Picture) → answer_of c q ≡ Ok p → (c ≡ Ok tt) × (q ≡ p)
 answer-passed (Ok _) q p e = (refl, cc)
 answer-passed (Err x) q p e = let z : ◌≡◌ {A = ℕ} 0 1 = cc in absurd (omega arith)
@@ -140,12 +135,6 @@ found-lies f p e =
 module _ (f : List ℕ) (h : Header) where
   no-space : is_white (get_or f h.maxval.end 0) ≡ false → Err (NoSpace h.maxval.end) ≡ first_fault (sample_trials f h)
   no-space e = rw e
-
-  pub samples-no-space : (b : Bool) → b ≡ is_white (get_or f h.maxval.end 0) → b ≡ false → Err (NoSpace h.maxval.end) ≡ first_fault (sample_trials f h)
-  samples-no-space b e g = no-space (sym e ∙ g)
-
-  pub samples-ended : length f ≤ h.maxval.end → Err (NoSpace h.maxval.end) ≡ first_fault (sample_trials f h)
-  samples-ended l = no-space (ap is_white (get_or-eq_default f 0 l))
 
   pub samples-raster : (b : Bool) (n : ℕ) (r : Result ⊤ PictureFault) → b ≡ is_white (get_or f h.maxval.end 0) → b ≡ true → n ≡ area h
       → r ≡ first_fault (raster_trials f (h.maxval.end + 1) n h.maxval.value) → r ≡ first_fault (sample_trials f h)

@@ -1,6 +1,6 @@
 -- Laws of bytes put at the start of a buffer: a scan of a picture, a picture of depths.
 use Rattle.std.specs.Prelude.{Result, Ok, Err}
-use mathlib.Core.Path.{◌≡◌, refl, sym, ap, subst, ◌∙◌}
+use mathlib.Core.Path.{◌≡◌, ap, ◌∙◌}
 use mathlib.Core.List.{List, [], ◌∷◌, ◌++◌}
 use Prim.Native.Nat.{ℕ, ◌+◌, ◌-◌, ◌*◌, ◌≤◌, ◌<◌}
 use native.Mathlib.Omega.{arith}
@@ -12,11 +12,9 @@ use Rattle.numerals.specs.Numerals.{numeral}
 use Rattle.phrases.specs.Phrases.{Appends}
 use Rattle.phrases.proofs.Appends.{appends-appends, appends-puts}
 use Rattle.pgm.specs.declared.Picture.{Picture}
-use Rattle.pgm.specs.declared.PictureFault.{PictureFault}
 use Rattle.pgm_copies.specs.declared.CopyFault.{CopyFault}
-use Rattle.pgm_copies.specs.declared.CopyFault.TheVariants.{NoRoom, TooFew, Unread}
-use Rattle.pgm.specs.Pgm.{picture_answer}
-use Rattle.pgm_copies.specs.Copies.{copy_answer, copied, scan_of, scan_answer_of, scan_written_of, scan_answer, scan_written, header_text, picture_file, file_answer, file_written, Copies}
+use Rattle.pgm_copies.specs.declared.CopyFault.TheVariants.{NoRoom, TooFew}
+use Rattle.pgm_copies.specs.Copies.{copy_answer, copied, scan_of, header_text, picture_file, file_answer, file_written, Copies}
 use Rattle.pgm.specs.Steps.{Lies}
 
 -- ---- bytes that have no room, and bytes that have
@@ -53,17 +51,6 @@ module _ (f : List ℕ) (kind : ℕ) (p : Picture) (i : Lies f p) where
       let y' : Appends mid r (take (p.height * p.width) (drop p.at f)) new s = rw z at y in
       copies-all (scan_of f kind p) old (3 + p.height * p.width) scan-length new s h
       (appends-appends old 0 (kind ∷ p.width ∷ p.height ∷ []) mid r (take (p.height * p.width) (drop p.at f)) new s (omega arith) x y')
-
--- by what reading gave
-module _ (f : List ℕ) (kind : ℕ) (old : List ℕ) where
-  pub scan-found : (new : List ℕ) (a : Result Picture PictureFault) (p : Picture) (r : Result ℕ CopyFault) → a ≡ picture_answer f → a ≡ Ok p
-      → Copies (copy_answer (scan_of f kind p) old) (copied (scan_of f kind p) old) new r → Copies (scan_answer f kind old) (scan_written f kind old) new r
-  scan-found new a p r e g c = subst (λ x. Copies (scan_answer_of f kind x old) (scan_written_of f kind x old) new r) (sym g ∙ e) c
-
-  pub scan-faulty : (a : Result Picture PictureFault) (x : PictureFault) → a ≡ picture_answer f → a ≡ Err x
-      → Copies (scan_answer f kind old) (scan_written f kind old) old (Err (Unread x))
-  scan-faulty a x e g =
-      subst (λ y. Copies (scan_answer_of f kind y old) (scan_written_of f kind y old) old (Err (Unread x))) (sym g ∙ e) (record { answers = refl; writes = refl })
 
 -- ---- depths as a picture
 
