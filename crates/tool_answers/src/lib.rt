@@ -1,8 +1,10 @@
 // What a command makes of its input: bytes, a text, or a refusal.
 #![tactic(auto)]
 
-ghost use Rattle.std.specs.Prelude.{◌≤◌, length};
+ghost use Rattle.std.specs.Prelude.{◌≡◌, ◌≤◌, length};
 ghost use Rattle.reading.specs.Steps.{JobOf};
+ghost use Rattle.tool_answers.specs.Faults.{fault_of};
+ghost use Rattle.tool_answers.specs.declared.Fault.TheVariants.{Refused};
 
 use listing::Extent;
 use motion_floats::Scale;
@@ -27,12 +29,16 @@ pub enum Fault {
 }
 
 impl From<Refusal> for Fault {
+    ghost from_gives = { λ refusal r. r ≡ Refused refusal };
+
     fn from(refusal: Refusal) -> Fault {
         Fault::Refused(refusal)
     }
 }
 
 impl From<CopyFault> for Fault {
+    ghost from_gives = { λ fault r. r ≡ fault_of fault };
+
     fn from(fault: CopyFault) -> Fault {
         match fault {
             CopyFault::NoRoom(needed) => Fault::Refused(Refusal {

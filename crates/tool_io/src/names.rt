@@ -1,5 +1,5 @@
 // Names of files: as words give them, as messages show them, links followed, a name for a new file beside another.
-ghost use Rattle.std.specs.Prelude.{◌≤◌, ◌<◌, length};
+ghost use Rattle.std.specs.Prelude.{◌≡◌, ◌≤◌, ◌<◌, length, IfSome, Some};
 ghost use Rattle.io.specs.Counts.{IsPrefixLen};
 
 use crate::words::fetch;
@@ -7,7 +7,9 @@ use std::env::FillError;
 use std::random::RandomSource;
 
 // The number of a word that is there and is not "-", which stands for standard input or output.
-pub fn named(rt: &HostRuntime, word: Option<usize>) -> Option<usize> {
+pub fn named(rt: &HostRuntime, word: Option<usize>) -> Option<usize>
+    ensures { IfSome result (λ number. word ≡ Some number) }
+{
     let number = word?;
     let mut text = [0u8; 2];
     let n = fetch(rt, number, &mut text).unwrap_or(0);

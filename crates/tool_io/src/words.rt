@@ -1,6 +1,8 @@
 // The words of the command line; word 0 is the program's name. They are bytes: text is asked for only where a file is.
-ghost use Rattle.std.specs.Prelude.{IfOk};
+ghost use Rattle.std.specs.Prelude.{◌≡◌, IfOk, Some};
+ghost use Rattle.std.specs.IoError.{raw_os_error};
 ghost use Rattle.io.specs.Counts.{IsPrefixLen};
+ghost use Rattle.tool_io.specs.Words.{error_number};
 
 use std::env::FillError;
 use std::io::Error;
@@ -21,7 +23,9 @@ pub fn fetch(rt: &HostRuntime, number: usize, buf: &mut [u8]) -> Result<usize, F
 }
 
 // Why a word is no file's name.
-pub fn error_of(fault: FillError) -> Error {
+pub fn error_of(fault: FillError) -> Error
+    ensures { raw_os_error result ≡ Some (error_number fault) }
+{
     match fault {
         FillError::TooLong => Error::from_raw_os_error(TOO_LONG),
         FillError::NotPresent => Error::from_raw_os_error(NO_WORD),
